@@ -1,0 +1,44 @@
+-- Circuits as contracts see them: inputs, equations and outputs, by wires.
+use Rattle.std.specs.Prelude.{◌≡◌, ℕ, ◌+◌, ◌<◌, ◌≤◌, false, List, [], ◌∷◌, length, map}
+use Rattle.lnet_edge.specs.declared.circuit.Rule.{Rule}
+use Rattle.lnet_edge.specs.declared.circuit.Rule.TheVariants.{And}
+use Rattle.lnet_edge.specs.declared.circuit.WireRef.{WireRef}
+use Rattle.lnet_edge.specs.declared.circuit.InputPort.{InputPort}
+use Rattle.lnet_edge.specs.declared.circuit.OutputPort.{OutputPort}
+
+-- an equation drives its target by its rule from the list of its operands
+pub record EquationValue : Type 0 where
+  pub target : ℕ
+  pub rule : Rule
+  pub operands : List WireRef
+
+-- the inputs and the outputs in order, and the equations as the file has them
+pub record CircuitValue : Type 0 where
+  pub inputs : List InputPort
+  pub outputs : List OutputPort
+  pub equations : List EquationValue
+
+-- P holds of each item and its place, from this place on
+abbrev pub AllFrom : {A : Type 0} → (ℕ → A → Type 0) → ℕ → List A → Type 0
+AllFrom P i [] = Unit {0}
+AllFrom P i (x ∷ xs) = P i x × AllFrom P (i + 1) xs
+
+-- the input drives this wire
+abbrev pub IsInputAt : ℕ → InputPort → Type 0
+IsInputAt i p = p.wire.0 ≡ i
+
+-- an And of two operands, each a wire below the target
+abbrev pub IsGateAt : ℕ → EquationValue → Type 0
+IsGateAt target e = (a : WireRef) × (b : WireRef) × (e ≡ record { target = target; rule = And false; operands = a ∷ b ∷ [] }) × (a.wire.0 < target) × (b.wire.0 < target)
+
+-- an output of a wire up to the last
+abbrev pub IsOutputOf : ℕ → ℕ → OutputPort → Type 0
+IsOutputOf top i p = p.source.wire.0 ≤ top
+
+-- wires are numbered from 1 without a gap: the inputs first, and then each gate after those it uses
+pub record IsInOrder (c : CircuitValue) : Type 0 where
+  pub inputs : AllFrom IsInputAt 1 c.inputs
+  pub gates : AllFrom IsGateAt (length c.inputs + 1) c.equations
+  pub outputs : AllFrom (IsOutputOf (length c.inputs + length c.equations)) 0 c.outputs
+  pub few : length c.inputs + length c.equations < 65536
+  pub few_outputs : length c.outputs < 65536

@@ -1,0 +1,5 @@
+pub mod Map
+pub mod Along
+pub mod Walks
+pub mod Over
+pub mod Values

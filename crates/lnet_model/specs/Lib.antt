@@ -1,0 +1,4 @@
+pub mod Networks
+pub mod Code
+pub mod Along
+pub mod Values

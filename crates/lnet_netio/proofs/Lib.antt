@@ -1,0 +1,5 @@
+pub mod Numbering
+pub mod Wires
+pub mod Exports
+pub mod Computes
+pub mod Making

@@ -1,0 +1,4 @@
+pub mod Spelling
+pub mod Meanings
+pub mod Reading
+pub mod Views

@@ -1,0 +1,54 @@
+//! The commands of a script one after the other.
+
+ghost use Rattle.std.specs.Prelude.{◌≤◌, Option, length};
+ghost use Rattle.lnet_edge.specs.Circuits.{CircuitValue};
+ghost use Rattle.lnet_session.specs.Sessions.{state_of};
+ghost use Rattle.lnet_session.specs.Steps.{World};
+ghost use Rattle.lnet_session.specs.Runs.{RunsTo};
+
+use crate::command::Command;
+use crate::session::{Session, StepEnd};
+use lnet_edge::{Files, Sink};
+use std::alloc::Global;
+
+/// How a run of commands ended.
+#[derive(Clone, Copy, Debug, PartialEq, Eq)]
+pub enum RunEnd {
+    /// Every command was met.
+    AllMet,
+    /// Every command was run, and at least one was not met.
+    SomeUnmet,
+    /// A fetch, a store or a put failed; the run ended there.
+    Fault,
+    /// Memory ran out; the run ended there.
+    NoMemory,
+}
+
+/// Runs the commands in order, up to a fault or want of memory.
+pub fn run_commands<F: Files, S: Sink>(
+    alloc: Global,
+    session: &mut Session,
+    commands: &[Command],
+    files: &mut F,
+    out: &mut S,
+) -> RunEnd
+    requires { length commands.now ≤ 1048576 }
+    ensures { (start : Option CircuitValue) → (origin : Option CircuitValue) × RunsTo commands.now result start
+        (record { state = state_of session.old; contents = F.contents files.old; written = S.written out.old; file_faults = F.faults files.old; last = F.last files.old; sink_faults = S.faults out.old })
+        (record { state = state_of session.new; contents = F.contents files.new; written = S.written out.new; file_faults = F.faults files.new; last = F.last files.new; sink_faults = S.faults out.new }) origin }
+{
+    let mut unmet = false;
+    for (index, command) in commands.iter().enumerate() {
+        match session.step(alloc, command, index as u32 + 1, files, out) {
+            StepEnd::Met => {}
+            StepEnd::Unmet(_) => unmet = true,
+            StepEnd::Fault => return RunEnd::Fault,
+            StepEnd::NoMemory => return RunEnd::NoMemory,
+        }
+    }
+    if unmet {
+        RunEnd::SomeUnmet
+    } else {
+        RunEnd::AllMet
+    }
+}

@@ -1,0 +1,153 @@
+//! The top call: the words of the command line, the script, and its run.
+
+ghost use Rattle.std.specs.Prelude.{◌≡◌, ◌⊎◌, List, ℕ, Option, Some, None, map, string_bytes, IfOk, MatchOption};
+ghost use Rattle.lnet_edge.specs.Outside.{Rose};
+ghost use Rattle.lnet_edge.specs.Circuits.{CircuitValue};
+ghost use Rattle.lnet_session.specs.Sessions.{state_of};
+ghost use Rattle.lnet_session.specs.Steps.{World, Grows, GrowsByPart};
+ghost use Rattle.lnet_session.specs.Ends.{EndsAs, IsOutcome, IsRefusedSomehow, IsFaulty, IsUnhindered, IsOrMemory, script_of, refusal_text, status_number, RefusesAs};
+
+use crate::running::{RunEnd, run_commands};
+use crate::script::{ScriptError, parse_script};
+use crate::session::{Kit, Session};
+use lnet_edge::{Files, PutError, Sink};
+use std::alloc::{AllocError, Global};
+
+/// Why nothing was run.
+#[derive(Clone, Copy, Debug, PartialEq, Eq)]
+pub enum Refusal {
+    /// There isn't exactly one word behind the program's name, or it begins with `-`.
+    Words,
+    /// The script is not in the grammar; its bad line, or 0 where it is too long.
+    Script(u32),
+}
+
+/// How the whole run ended.
+#[derive(Clone, Copy, Debug, PartialEq, Eq)]
+pub enum Ending {
+    /// The script was accepted, and its commands ran to this end.
+    Ran(RunEnd),
+    /// The words or the script were refused, and the line that says so was put.
+    Refused(Refusal),
+    /// The line of the refusal could not be put.
+    NotPut(Refusal),
+    /// Memory ran out before the first command.
+    NoMemory,
+}
+
+/// What a run leaves.
+#[derive(Drop)]
+pub struct Outcome {
+    /// 0 all met, 1 some unmet, 2 refused, 3 a fetch, store or put failed, 4 want of memory.
+    pub status: u8,
+    /// The session as the run left it.
+    pub session: Session,
+}
+
+/// The script of the command line: its one word, unless that begins with a dash.
+fn script_word(words: &[String]) -> Option<&str>
+    ensures { MatchOption result (script_of (map string_bytes words.now) ≡ None) (λ s. script_of (map string_bytes words.now) ≡ Some s.now) }
+{
+    match words {
+        [_, script] => {
+            let script = script.as_str();
+            match script.as_bytes() {
+                [b'-', ..] => None,
+                _ => Some(script),
+            }
+        }
+        _ => None,
+    }
+}
+
+fn text_of_refusal(alloc: Global, refusal: Refusal) -> Result<String, AllocError>
+    ensures { IfOk result (λ text. string_bytes text ≡ refusal_text refusal) }
+{
+    match refusal {
+        Refusal::Words => format!(in alloc; "error words\n"),
+        Refusal::Script(line) => format!(in alloc; "error script {line}\n"),
+    }
+}
+
+fn refuse<S: Sink>(alloc: Global, refusal: Refusal, out: &mut S) -> Ending
+    ensures { RefusesAs refusal result (S.written out.old) (S.written out.new) (S.faults out.old) (S.faults out.new) }
+{
+    let Ok(text) = text_of_refusal(alloc, refusal) else {
+        return Ending::NoMemory;
+    };
+    match out.put(text.as_bytes()) {
+        Ok(()) => Ending::Refused(refusal),
+        Err(PutError::Failed) => Ending::NotPut(refusal),
+        Err(PutError::NoMemory) => Ending::NoMemory,
+    }
+}
+
+fn run_words<F: Files, S: Sink>(
+    alloc: Global,
+    words: &[String],
+    session: &mut Session,
+    files: &mut F,
+    out: &mut S,
+) -> Ending
+    ensures { (origin : Option CircuitValue) × EndsAs (map string_bytes words.now) result
+        (record { state = state_of session.old; contents = F.contents files.old; written = S.written out.old; file_faults = F.faults files.old; last = F.last files.old; sink_faults = S.faults out.old })
+        (record { state = state_of session.new; contents = F.contents files.new; written = S.written out.new; file_faults = F.faults files.new; last = F.last files.new; sink_faults = S.faults out.new }) origin }
+{
+    let Some(script) = script_word(words) else {
+        return refuse(alloc, Refusal::Words, out);
+    };
+    match parse_script(alloc, script.as_bytes()) {
+        Ok(commands) => Ending::Ran(run_commands(alloc, session, &commands, files, out)),
+        Err(ScriptError::BadLine(line)) => refuse(alloc, Refusal::Script(line), out),
+        Err(ScriptError::NoMemory) => Ending::NoMemory,
+    }
+}
+
+fn status_of(ending: Ending) -> u8
+    ensures { result ≡ status_number ending }
+{
+    match ending {
+        Ending::Ran(RunEnd::AllMet) => 0,
+        Ending::Ran(RunEnd::SomeUnmet) => 1,
+        Ending::Refused(_) => 2,
+        Ending::Ran(RunEnd::Fault) | Ending::NotPut(_) => 3,
+        Ending::Ran(RunEnd::NoMemory) | Ending::NoMemory => 4,
+    }
+}
+
+/// Runs the script that the words give, over these files and this sink, from a session with this kit.
+///
+/// `words[0]` is the program's name; there must be one word more, the script, which may not begin with `-`. The order
+/// is: words, grammar, then the commands in order. A refusal puts the one line `error words` or `error script LINE`,
+/// and no command runs. A failed fetch, store or put ends the run, as does want of memory. Time is linear in the script
+/// and in the files that it names.
+pub fn run<F: Files, S: Sink>(
+    alloc: Global,
+    words: &[String],
+    files: &mut F,
+    out: &mut S,
+    kit: Kit,
+) -> Outcome
+    // How the run went, what it put, and that each output of the network that it leaves computes the same function as
+    // in the file last read.
+    ensures outcome { IsOutcome (map string_bytes words.now) result.status
+        (record { state = record { network = None }; contents = F.contents files.old; written = S.written out.old; file_faults = F.faults files.old; last = F.last files.old; sink_faults = S.faults out.old })
+        (record { state = state_of result.session; contents = F.contents files.new; written = S.written out.new; file_faults = F.faults files.new; last = F.last files.new; sink_faults = S.faults out.new }) }
+
+    // When a refusal, a fault and success come.
+    ensures refused { result.status ≡ 2 → IsRefusedSomehow (map string_bytes words.now) }
+    ensures refuses { IsRefusedSomehow (map string_bytes words.now) → (result.status ≡ 2) ⊎ IsOrMemory 3 result.status }
+    ensures fault { result.status ≡ 3 → IsFaulty (map string_bytes words.now)
+        (record { state = record { network = None }; contents = F.contents files.old; written = S.written out.old; file_faults = F.faults files.old; last = F.last files.old; sink_faults = S.faults out.old })
+        (record { state = state_of result.session; contents = F.contents files.new; written = S.written out.new; file_faults = F.faults files.new; last = F.last files.new; sink_faults = S.faults out.new }) }
+    ensures complete { IsUnhindered (map string_bytes words.now)
+        (record { state = record { network = None }; contents = F.contents files.old; written = S.written out.old; file_faults = F.faults files.old; last = F.last files.old; sink_faults = S.faults out.old })
+        (record { state = state_of result.session; contents = F.contents files.new; written = S.written out.new; file_faults = F.faults files.new; last = F.last files.new; sink_faults = S.faults out.new }) → IsOrMemory 0 result.status }
+{
+    let mut session = Session::new(alloc, kit);
+    let ending = run_words(alloc, words, &mut session, files, out);
+    Outcome {
+        status: status_of(ending),
+        session,
+    }
+}

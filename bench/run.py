@@ -5,8 +5,9 @@
 
 The two sizes are made here, always the same: 64 inputs, 32 outputs, and 6,000 or 60,000 And gates, each of two signals
 before it. What is timed is the built program without its launcher: the processor time of the user and the system
-together, the median of the runs, whose order goes round the commands so that a busy moment meets them all. The ratio of
-the two sizes is near 10 where the time goes up with the size alone.
+together, the median of the runs, whose order goes round the commands so that a busy moment meets them all. The start of
+the program is the time of a file without inputs and gates, and is taken off before the second ratio is made. That ratio
+is near 10 where the time goes up with the size alone.
 """
 import os
 import shutil
@@ -72,7 +73,9 @@ def written(name, lines):
 
 def sizes(folder, runs):
     """Both sizes, read alone and read and written."""
-    scripts = {}
+    scripts = {"start": "read aiger start.aag aig"}
+    with open(os.path.join(folder, "start.aag"), "w", encoding="ascii") as file:
+        file.write("aag 0 0 0 0 0\n")
     for gates in SIZES:
         with open(os.path.join(folder, f"{gates}.aag"), "w", encoding="ascii") as file:
             file.write(circuit(gates))
@@ -81,10 +84,14 @@ def sizes(folder, runs):
         scripts[("read, write", gates)] = f"{read}; write aag {gates}.out"
     taken = medians(scripts, folder, runs)
     small, large = SIZES
-    lines = [f"median of {runs} runs, processor time in milliseconds", "commands | 6,000 gates | 60,000 gates | ratio"]
+    start = taken["start"]
+    lines = [
+        f"median of {runs} runs, processor time in milliseconds; the start alone {start:.2f}",
+        "commands | 6,000 gates | 60,000 gates | ratio | ratio without the start",
+    ]
     for what in ("read", "read, write"):
         a, b = taken[(what, small)], taken[(what, large)]
-        lines.append(f"{what} | {a:.2f} | {b:.2f} | {b / a:.2f}")
+        lines.append(f"{what} | {a:.2f} | {b:.2f} | {b / a:.1f} | {(b - start) / (a - start):.1f}")
     written("sizes.txt", lines)
 
 

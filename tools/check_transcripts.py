@@ -1,10 +1,12 @@
 #!/usr/bin/env python3
 """Reruns each transcript of the documents against the program, and compares what it prints.
 
+    tools/check_transcripts.py [PROGRAM]     the built program; the launcher `lognet`, which builds it, where left out
+
 A transcript is a fenced block ```console. A line `$ COMMAND` is given to bash, and the lines up to the next `$ ` are
 what it must print on its standard output. A status other than 0 is shown by a last line `$ echo $?` with the number
 below it; without such a line the status must be 0. The blocks of one document run one after another in a new folder
-that holds a copy of examples/ and a link to the launcher `lognet`, as a reader at the top of a clone has them.
+that holds a copy of examples/ and a link `lognet` to the program, as a reader at the top of a clone has them.
 """
 import difflib
 import os
@@ -62,14 +64,14 @@ def run_block(folder, lines):
     return shown
 
 
-def check(document):
+def check(document, program):
     """How many blocks of a document were compared, and how many differ."""
     with open(os.path.join(TOP, document), encoding="utf-8") as file:
         found = list(blocks(file.read()))
     wrong = 0
     with tempfile.TemporaryDirectory() as folder:
         shutil.copytree(os.path.join(TOP, "examples"), os.path.join(folder, "examples"))
-        os.symlink(os.path.join(TOP, "lognet"), os.path.join(folder, "lognet"))
+        os.symlink(program, os.path.join(folder, "lognet"))
         for start, lines in found:
             shown = run_block(folder, lines)
             if shown != lines:
@@ -80,7 +82,8 @@ def check(document):
 
 
 def main():
-    results = [check(document) for document in DOCUMENTS]
+    program = os.path.abspath(sys.argv[1]) if len(sys.argv) > 1 else os.path.join(TOP, "lognet")
+    results = [check(document, program) for document in DOCUMENTS]
     total, wrong = (sum(column) for column in zip(*results))
     print(f"transcripts: {total} compared, {wrong} differ")
     return 1 if wrong or total == 0 else 0

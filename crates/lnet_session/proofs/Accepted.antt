@@ -16,12 +16,14 @@ abbrev pub IsParsed : List ℕ → List Command → Type 0
 IsParsed bytes commands = (length bytes ≤ script_limit) × IsScript bytes commands
 
 pub ran_script : (words : List (List ℕ)) (word bytes : List ℕ) (parsed commands : List Command) (end : RunEnd) (old new : World) → script_of words ≡ Some word → bytes ≡ word → IsParsed bytes parsed → commands ≡ parsed → ((origin : Option CircuitValue) × RunsTo commands end None old new origin) → (origin : Option CircuitValue) × RanScript words end old new origin
-ran_script words word bytes parsed commands end old new at same found is runs =
-    (runs.0, record {
-      commands = parsed;
-      accepted = record { bytes = bytes; word = at ∙ ap Some (sym same); short = found.0; script = found.1 };
-      runs = subst (λ (cs : List Command). RunsTo cs end None old new runs.0) is runs.1;
-    })
+ran_script words word bytes parsed commands end old new at same found is runs = (
+  runs.0,
+  record {
+    commands = parsed;
+    accepted = record { bytes = bytes; word = at ∙ ap Some (sym same); short = found.0; script = found.1 };
+    runs = subst (λ (cs : List Command). RunsTo cs end None old new runs.0) is runs.1;
+  },
+)
 
 -- a run that began without a network
 pub from_nothing : (words : List (List ℕ)) (end : Ending) (network : Option NetworkValue) (contents : Option Contents) (written : Option (List ℕ)) (file_faults : ℕ) (last : Option Call) (sink_faults : ℕ) (new : World) → network ≡ None

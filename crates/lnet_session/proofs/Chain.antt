@@ -1,5 +1,5 @@
 -- A run goes on by one command, and what stands where one stopped.
-use Rattle.std.proofs.Common.{◌≡◌, ℕ, zero, suc, ◌+◌, ◌≤◌, ◌<◌, Bool, true, false, List, [], ◌∷◌, ◌++◌, length, take, get_or, Option, Some, None, refl, sym, ap, subst, ◌∙◌, ◌⊎◌, inl, inr, append_assoc, arith}
+use Rattle.std.proofs.Common.{◌≡◌, ℕ, suc, ◌+◌, ◌≤◌, ◌<◌, Bool, true, false, List, [], ◌∷◌, ◌++◌, length, take, get_or, Option, Some, None, refl, sym, ap, subst, ◌∙◌, inl, inr, append_assoc, arith}
 use Rattle.std.specs.Prelude.{◌||◌}
 use Rattle.std.proofs.lemmas.List.{append-nil, length-take-le, take_more, take_all}
 use Rattle.std.proofs.lemmas.Option.{slice_get_read}
@@ -103,13 +103,16 @@ grows_by_nothing None = refl
 grows_by_nothing (Some o) = ap Some (sym (append-nil o))
 
 pub ran_nothing : (old : World) (start : Option CircuitValue) → RanSomehow [] false start old old
-ran_nothing old start = (start, record {
-  text = [];
-  runs = (refl, refl, refl);
-  grows = grows_by_nothing old.written;
-  file_faults = omega arith;
-  sink_faults = omega arith;
-})
+ran_nothing old start = (
+  start,
+  record {
+    text = [];
+    runs = (refl, refl, refl);
+    grows = grows_by_nothing old.written;
+    file_faults = omega arith;
+    sink_faults = omega arith;
+  },
+)
 
 pub ran_all : (cmds : List Command) (i : ℕ) (u v : Bool) (start : Option CircuitValue) (old new : World) → length cmds ≤ i → u ≡ v → RanSomehow (take i cmds) u start old new → RanSomehow cmds v start old new
 ran_all cmds i u v start old new le same ran =
@@ -123,15 +126,17 @@ StoppedSomehow commands stop start old new = (origin : Option CircuitValue) × S
 pub stopped_at : (cmds : List Command) (i : ℕ) (c : Command) (stop : StepEnd) (u : Bool) (start : Option CircuitValue) (old mid new : World) → i < length cmds → c ≡ get_or cmds i c → RanSomehow (take i cmds) u start old mid → Steps c (i + 1) stop mid new
     → ((origin : Option CircuitValue) → (after : Option CircuitValue) × AfterStop c mid new origin after) → StoppedSomehow cmds stop start old new
 stopped_at cmds i c stop u start old mid new lt is ran step after =
-    let later = after ran.0 in
-    (later.0, record {
-      done = i;
-      command = c;
-      next = slice_get_read cmds (length cmds) i c refl lt is;
-      unmet = u;
-      mid = mid;
-      mid_origin = ran.0;
-      ran = ran.1;
-      step = step;
-      after = later.1;
-    })
+    let later = after ran.0 in (
+      later.0,
+      record {
+        done = i;
+        command = c;
+        next = slice_get_read cmds (length cmds) i c refl lt is;
+        unmet = u;
+        mid = mid;
+        mid_origin = ran.0;
+        ran = ran.1;
+        step = step;
+        after = later.1;
+      },
+    )

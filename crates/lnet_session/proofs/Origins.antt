@@ -1,5 +1,5 @@
 -- Over each run the network computes what the circuit of the file last read computes.
-use Rattle.std.proofs.Common.{◌≡◌, ℕ, zero, suc, ◌+◌, Bool, true, false, List, [], ◌∷◌, ◌++◌, length, take, Option, Some, None, refl, sym, ap, subst, ◌∙◌, inl, inr, append_assoc, cond, arith}
+use Rattle.std.proofs.Common.{◌≡◌, ℕ, suc, ◌+◌, Bool, true, false, List, [], ◌∷◌, ◌++◌, length, take, Option, Some, None, refl, sym, ap, subst, ◌∙◌, inl, inr, append_assoc, cond, arith}
 use Rattle.std.specs.Prelude.{◌||◌}
 use Rattle.std.specs.declared.cmp.Ordering.{Ordering}
 use Rattle.std.specs.Ordering.{is_eq}
@@ -12,7 +12,7 @@ use Rattle.lnet_model.specs.Networks.{NetworkValue}
 use Rattle.lnet_aiger.specs.Spelling.{text_of}
 use Rattle.lnet_aiger.specs.Meanings.{MeansSame}
 use Rattle.lnet_aiger.proofs.Same.{means_same}
-use Rattle.lnet_netio.specs.Built.{built, exported}
+use Rattle.lnet_netio.specs.Built.{built}
 use Rattle.lnet_netio.proofs.Computes.{built-Acyclic, outputs-built, exported-built}
 use Rattle.lnet_session.specs.declared.command.Command.{Command}
 use Rattle.lnet_session.specs.declared.command.Command.TheVariants.{Read, Write}

@@ -1,5 +1,5 @@
 -- The two laws of scripts.
-use Rattle.std.proofs.Common.{◌≡◌, ℕ, zero, suc, ◌+◌, ◌≤◌, ◌<◌, Bool, true, false, cond, eqb, ltb, List, [], ◌∷◌, ◌++◌, length, take, drop, Option, Some, None, Result, Ok, Err, refl, sym, ap, subst, ◌∙◌, append_assoc, inl, inr, arith}
+use Rattle.std.proofs.Common.{◌≡◌, ℕ, zero, suc, ◌+◌, ◌≤◌, ◌<◌, Bool, true, false, cond, eqb, ltb, List, [], ◌∷◌, ◌++◌, length, take, drop, Option, Some, None, Result, Ok, Err, refl, sym, ap, subst, ◌∙◌, append_assoc, inr, arith}
 use Rattle.std.specs.Prelude.{codes, nat_eq, ◌&&◌, IfOk, IfErr}
 use Rattle.std.specs.Global.{Vec}
 use Rattle.std.specs.List.{prefix_len, starts_with, AllByRecursion}
@@ -14,7 +14,7 @@ use Rattle.lnet_session.specs.declared.command.ReadFormat.TheVariants.{Aiger}
 use Rattle.lnet_session.specs.declared.command.WriteFormat.TheVariants.{Aag}
 use Rattle.lnet_session.specs.declared.script.ScriptError.{ScriptError}
 use Rattle.lnet_session.specs.declared.script.ScriptError.TheVariants as errors
-use Rattle.lnet_session.specs.Scripts.{◌>>=◌, script_limit, is_word_byte, IsWord, IsCommand, command_text, script_text, IsScript, Refuses, word_at, name_of_len, name_at, read_at, write_at, command_by, command_at, commands_after, commands_at, GivesCommand}
+use Rattle.lnet_session.specs.Scripts.{◌>>=◌, script_limit, is_word_byte, IsWord, IsCommand, command_text, script_text, IsScript, Refuses, word_at, name_at, command_by, command_at, commands_after, commands_at, GivesCommand}
 
 bind_some : {A B : Type 0} (r : Option A) (f : A → Option B) (y : B) → (r >>= f) ≡ Some y → (x : A) × (r ≡ Some x) × (f x ≡ Some y)
 bind_some (Some x) f y e = (x, refl, e)

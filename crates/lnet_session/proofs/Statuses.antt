@@ -1,24 +1,19 @@
 -- When a run ends with each status.
-use Rattle.std.proofs.Common.{◌≡◌, ℕ, zero, suc, ◌+◌, ◌-◌, ◌^◌, ◌≤◌, ◌<◌, min, ◌⊎◌, Bool, true, false, List, [], ◌∷◌, ◌++◌, length, take, Option, Some, None, refl, sym, ap, subst, ◌∙◌, inl, inr, arith}
+use Rattle.std.proofs.Common.{◌≡◌, ℕ, zero, suc, ◌+◌, ◌≤◌, ◌⊎◌, Bool, true, false, List, [], ◌∷◌, length, Option, Some, None, refl, sym, ap, subst, ◌∙◌, inl, inr, arith}
 use Rattle.std.specs.Prelude.{◌||◌, slice_get}
-use Rattle.lnet_edge.specs.Outside.{Rose, Contents}
+use Rattle.lnet_edge.specs.Outside.{Rose}
 use Rattle.lnet_edge.specs.Circuits.{CircuitValue}
 use Rattle.lnet_session.specs.declared.command.Command.{Command}
-use Rattle.lnet_session.specs.declared.reply.Reply.{Reply}
-use Rattle.lnet_session.specs.declared.script.ScriptError.TheVariants as script
-use Rattle.lnet_session.specs.declared.session.StepEnd.{StepEnd}
 use Rattle.lnet_session.specs.declared.session.StepEnd.TheVariants as ends
-use Rattle.lnet_session.specs.declared.running.RunEnd.{RunEnd}
 use Rattle.lnet_session.specs.declared.running.RunEnd.TheVariants as run
 use Rattle.lnet_session.specs.declared.top.Refusal.{Refusal}
 use Rattle.lnet_session.specs.declared.top.Refusal.TheVariants as refusal
 use Rattle.lnet_session.specs.declared.top.Ending.{Ending}
 use Rattle.lnet_session.specs.declared.top.Ending.TheVariants as ending
-use Rattle.lnet_session.specs.Scripts.{IsScript, Refuses}
-use Rattle.lnet_session.specs.States.{State}
-use Rattle.lnet_session.specs.Steps.{World, Steps, CallFailed, PutFailed, own_call}
-use Rattle.lnet_session.specs.Runs.{Scene, Turn, Runs, Ran, Stopped, RunsTo, is_unmet, scene_of}
-use Rattle.lnet_session.specs.Ends.{script_of, IsRefused, IsAccepted, RanScript, EndsAs, status_number, IsRefusedSomehow, IsOneOf, FilesFailed, IsFaulty, MeetsNoCause, IsUnhindered, IsOrMemory}
+use Rattle.lnet_session.specs.Scripts.{IsScript}
+use Rattle.lnet_session.specs.Steps.{World, CallFailed, PutFailed}
+use Rattle.lnet_session.specs.Runs.{Scene, Turn, Runs, Stopped, scene_of}
+use Rattle.lnet_session.specs.Ends.{script_of, IsRefused, IsAccepted, EndsAs, status_number, IsRefusedSomehow, IsOneOf, IsFaulty, MeetsNoCause, IsUnhindered, IsOrMemory}
 use Rattle.lnet_session.proofs.ScriptLaws.{one_script}
 
 -- ---- the words and the script are accepted or refused, and not both
@@ -68,6 +63,7 @@ member (d ∷ ds) zero c e = inl (sym (same_some d c e)) where
   or_else : Command → Option Command → Command
   or_else x None = x
   or_else x (Some y) = y
+
   same_some : (x y : Command) → Some x ≡ Some y → x ≡ y
   same_some x y e = ap (or_else x) e
 member (d ∷ ds) (suc i) c e = inr (member ds i c e)

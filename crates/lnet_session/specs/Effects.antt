@@ -9,7 +9,6 @@ use Rattle.lnet_aiger.specs.Spelling.{Means, text_of}
 use Rattle.lnet_netio.specs.Built.{built, exported}
 use Rattle.lnet_session.specs.declared.command.Command.{Command}
 use Rattle.lnet_session.specs.declared.command.Command.TheVariants.{Read, Write}
-use Rattle.lnet_session.specs.declared.reply.Unmet.{Unmet}
 use Rattle.lnet_session.specs.declared.reply.Unmet.TheVariants as unmet
 use Rattle.lnet_session.specs.declared.reply.Reply.{Reply}
 use Rattle.lnet_session.specs.declared.reply.Reply.TheVariants as reply

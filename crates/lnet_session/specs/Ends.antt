@@ -1,7 +1,7 @@
 -- How a whole run ends, and when it ends with each status.
-use Rattle.std.specs.Prelude.{◌≡◌, ◌⊎◌, ℕ, ◌+◌, ◌≤◌, Bool, true, false, ◌==◌, List, [], ◌∷◌, ◌++◌, length, Option, Some, None, codes, if◌then◌else◌}
+use Rattle.std.specs.Prelude.{◌≡◌, ◌⊎◌, ℕ, ◌≤◌, Bool, false, ◌==◌, List, [], ◌∷◌, ◌++◌, length, Option, Some, None, codes, if◌then◌else◌}
 use Rattle.std.specs.Fmt.{decimal}
-use Rattle.lnet_edge.specs.Outside.{Rose, Call, Contents}
+use Rattle.lnet_edge.specs.Outside.{Rose, Contents}
 use Rattle.lnet_edge.specs.Circuits.{CircuitValue}
 use Rattle.lnet_session.specs.declared.command.Command.{Command}
 use Rattle.lnet_session.specs.declared.reply.Reply.{Reply}

@@ -1,5 +1,5 @@
 -- The state of a session between two commands.
-use Rattle.std.specs.Prelude.{Option, Some, None}
+use Rattle.std.specs.Prelude.{Option}
 use Rattle.lnet_model.specs.Networks.{NetworkValue}
 
 -- the network, where one is in place

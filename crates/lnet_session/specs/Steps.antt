@@ -2,7 +2,6 @@
 use Rattle.std.specs.Prelude.{◌≡◌, ◌⊎◌, ℕ, ◌≤◌, Bool, List, ◌++◌, length, take, Option, Some, None, IsSome}
 use Rattle.lnet_edge.specs.Outside.{Contents, Call, Rose, call_of}
 use Rattle.lnet_edge.specs.Circuits.{CircuitValue}
-use Rattle.lnet_edge.specs.declared.outside.Direction.{Direction}
 use Rattle.lnet_edge.specs.declared.outside.Direction.TheVariants.{Fetch, Store}
 use Rattle.lnet_model.specs.Networks.{NetworkValue}
 use Rattle.lnet_model.specs.Values.{network_outputs}

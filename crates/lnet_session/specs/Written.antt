@@ -1,5 +1,5 @@
 -- Contents that a run wrote.
-use Rattle.std.specs.Prelude.{◌≡◌, ℕ, List, Option, Some, None}
+use Rattle.std.specs.Prelude.{◌≡◌, ℕ, List, Option, Some}
 use Rattle.std.specs.FinMap.{get}
 use Rattle.lnet_edge.specs.Outside.{Contents}
 use Rattle.lnet_edge.specs.Circuits.{CircuitValue}

@@ -18,13 +18,11 @@ pub fn runs_follow_their_origin()
         → old.state.network ≡ None → Runs index commands old new text unmet → FollowsOrigin new.state.network new.origin }
     ensures fronts { (index : ℕ) (front rest : List CommandValue) (old new : Scene) (text : List ℕ) (unmet : Bool)
         → Runs index (front ++ rest) old new text unmet → SplitsAt index front rest old new text }
-{
-}
+{}
 
 /// At the moment of a met write, the content that it left means a circuit whose outputs compute the functions of the
 /// file last read.
 pub fn writes_mean_their_origin()
     ensures { (index : ℕ) (commands : List CommandValue) (old mid new : Scene) (text line : List ℕ) (unmet : Bool) (at : ℕ) (format : FormatValue) (name : List ℕ) (contents : Contents)
         → old.state.network ≡ None → Runs index commands old mid text unmet → Turn at (Write format name) mid new line false → new.contents ≡ Some contents → HoldsOrigin contents name mid.origin }
-{
-}
+{}

@@ -1,4 +1,4 @@
-use Rattle.std.proofs.Common.{◌≡◌, None, refl}
+use Rattle.std.proofs.Common.{refl}
 use Rattle.lnet_session.proofs.Accepted.{from_nothing}
 use Rattle.lnet_session.proofs.Origins.{end_follows}
 use Rattle.lnet_session.proofs.Statuses.{status_faulty, free_status, status_refused, refused_status}

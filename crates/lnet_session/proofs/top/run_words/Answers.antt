@@ -1,4 +1,4 @@
-use Rattle.std.proofs.Common.{◌≡◌, None}
+use Rattle.std.proofs.Common.{None}
 use Rattle.lnet_session.proofs.Accepted.{ran_script}
 use Rattle.lnet_session.proofs.top.run_words.Goals as goal
 

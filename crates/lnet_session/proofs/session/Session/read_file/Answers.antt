@@ -1,5 +1,4 @@
-use Rattle.std.proofs.Common.{◌≡◌, ℕ, List, None, Err, refl, subst}
-use Rattle.std.specs.Global.{Vec}
+use Rattle.std.proofs.Common.{ℕ, List, None, Err, refl, subst}
 use Rattle.lnet_edge.specs.Outside.{Fetches}
 use Rattle.lnet_edge.specs.declared.outside.FetchError.{FetchError}
 use Rattle.lnet_edge.specs.declared.outside.FetchError.TheVariants as fetch

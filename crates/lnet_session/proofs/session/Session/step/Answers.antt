@@ -1,4 +1,4 @@
-use Rattle.std.proofs.Common.{◌≡◌, Err, inr, ap, ◌∙◌}
+use Rattle.std.proofs.Common.{Err, inr, ap, ◌∙◌}
 use Rattle.lnet_session.proofs.Put.{put_failed}
 use Rattle.lnet_session.proofs.session.Session.step.Goals as goal
 

@@ -1,0 +1,5 @@
+//! Whole runs over files and a sink in memory: scripts, transcripts, statuses, and the files that are left.
+#![tactic(auto)]
+
+#[cfg(test)]
+mod runs;

@@ -1,0 +1,188 @@
+//! Runs with their expected transcripts, statuses and files.
+
+use lnet_edge::{MemoryFiles, MemorySink};
+use lnet_session::{Kit, run};
+use std::alloc::{AllocError, Global};
+use std::process::Abort;
+use std::test::Fail;
+
+/// One output, the constant true.
+const ONE: &[u8] = b"aag 0 0 0 1 0\n1\n";
+
+/// The words of a command line, and what its run puts and answers.
+#[derive(Clone, Copy)]
+struct Row {
+    words: &'static [&'static str],
+    transcript: &'static str,
+    status: u8,
+}
+
+fn owned(alloc: Global, words: &[&str]) -> Result<Vec<String>, AllocError> {
+    let mut owned = Vec::new(alloc);
+    for word in words {
+        owned.push(String::from_str(alloc, word)?)?;
+    }
+    Ok(owned)
+}
+
+/// Runs the row's words over the files, with a sink whose puts of these numbers fail, and compares what comes.
+fn check<R: Abort>(
+    rt: &R,
+    alloc: Global,
+    row: &Row,
+    files: &mut MemoryFiles,
+    failing_puts: Vec<u32>,
+) -> Result<(), AllocError> {
+    let mut out = MemorySink::new(alloc, failing_puts);
+    let words = owned(alloc, row.words)?;
+    let outcome = run(alloc, &words, files, &mut out, Kit {});
+    assert_eq!(rt; out.written(), row.transcript.as_bytes());
+    assert_eq!(rt; outcome.status, row.status);
+    Ok(())
+}
+
+/// What is read and written again, with the greater operand first.
+#[test]
+fn reads_and_writes(rt: HostRuntime) -> Result<(), Fail> {
+    let alloc = rt.alloc();
+    let mut files = MemoryFiles::new(alloc, Vec::new(alloc));
+    files.set("one.aag", ONE)?;
+    files.set("and.aag", b"aag 3 2 0 1 1\n2\n4\n7\n6 2 4\n")?;
+    let constant = Row {
+        words: &["lognet", "read aiger one.aag aig; write aag out.aag"],
+        transcript: "network aig inputs 0 outputs 1 gates 0\nwrote 16\n",
+        status: 0,
+    };
+    check(&rt, alloc, &constant, &mut files, Vec::new(alloc))?;
+    assert_eq!(rt; files.file("out.aag").ok_or("no file")?, ONE);
+    let gate = Row {
+        words: &["lognet", "read aiger and.aag aig; write aag out.aag"],
+        transcript: "network aig inputs 2 outputs 1 gates 1\nwrote 26\n",
+        status: 0,
+    };
+    check(&rt, alloc, &gate, &mut files, Vec::new(alloc))?;
+    assert_eq!(rt; files.file("out.aag").ok_or("no file")?, b"aag 3 2 0 1 1\n2\n4\n7\n6 4 2\n".as_slice());
+    Ok(())
+}
+
+/// Commands that are not met, and words and scripts that are refused, over a malformed file and a good one.
+const ANSWERS: [Row; 11] = [
+    Row {
+        words: &["lognet", "read aiger no.aag aig; write aag x"],
+        transcript: "unmet 1 Malformed 0 Unbuilt\nunmet 2 NoNetwork\n",
+        status: 1,
+    },
+    Row {
+        words: &["lognet", "read aiger one.aag aig; read aiger no.aag aig; write aag x"],
+        transcript: "network aig inputs 0 outputs 1 gates 0\nunmet 2 Malformed 0 Unbuilt\nwrote 16\n",
+        status: 1,
+    },
+    Row {
+        words: &["lognet", "read aiger one.aag aig"],
+        transcript: "network aig inputs 0 outputs 1 gates 0\n",
+        status: 0,
+    },
+    Row {
+        words: &["lognet", "frob"],
+        transcript: "error script 1\n",
+        status: 2,
+    },
+    Row {
+        words: &["lognet", ""],
+        transcript: "error script 1\n",
+        status: 2,
+    },
+    Row {
+        words: &["lognet", "read aiger one.aag aig;write aag x"],
+        transcript: "error script 1\n",
+        status: 2,
+    },
+    Row {
+        words: &["lognet", "read aiger one.aag  aig"],
+        transcript: "error script 1\n",
+        status: 2,
+    },
+    Row {
+        words: &["lognet", "write aag x; "],
+        transcript: "error script 1\n",
+        status: 2,
+    },
+    Row {
+        words: &["lognet"],
+        transcript: "error words\n",
+        status: 2,
+    },
+    Row {
+        words: &["lognet", "write aag x", "y"],
+        transcript: "error words\n",
+        status: 2,
+    },
+    Row {
+        words: &["lognet", "-f"],
+        transcript: "error words\n",
+        status: 2,
+    },
+];
+
+#[test]
+fn answers(rt: HostRuntime) -> Result<(), Fail> {
+    let alloc = rt.alloc();
+    for row in &ANSWERS {
+        let mut files = MemoryFiles::new(alloc, Vec::new(alloc));
+        files.set("one.aag", ONE)?;
+        files.set("no.aag", b"aag 0 0 0 0 0")?;
+        check(&rt, alloc, row, &mut files, Vec::new(alloc))?;
+    }
+    Ok(())
+}
+
+/// A failed store, a failed put, and a file that isn't there.
+#[test]
+fn faults(rt: HostRuntime) -> Result<(), Fail> {
+    let alloc = rt.alloc();
+    let store = Row {
+        words: &["lognet", "read aiger one.aag aig; write aag x"],
+        transcript: "network aig inputs 0 outputs 1 gates 0\n",
+        status: 3,
+    };
+    let mut files = MemoryFiles::new(alloc, [2].to_vec(alloc)?);
+    files.set("one.aag", ONE)?;
+    check(&rt, alloc, &store, &mut files, Vec::new(alloc))?;
+    assert!(rt; files.file("x").is_none());
+    let put = Row {
+        transcript: "network aig inputs ",
+        ..store
+    };
+    let mut files = MemoryFiles::new(alloc, Vec::new(alloc));
+    files.set("one.aag", ONE)?;
+    check(&rt, alloc, &put, &mut files, [1].to_vec(alloc)?)?;
+    let absent = Row {
+        transcript: "",
+        ..store
+    };
+    let mut files = MemoryFiles::new(alloc, Vec::new(alloc));
+    check(&rt, alloc, &absent, &mut files, Vec::new(alloc))?;
+    Ok(())
+}
+
+/// A script of one byte too many, and a content of one byte too many.
+#[test]
+fn limits(rt: HostRuntime) -> Result<(), Fail> {
+    let alloc = rt.alloc();
+    let mut files = MemoryFiles::new(alloc, Vec::new(alloc));
+    let mut out = MemorySink::new(alloc, Vec::new(alloc));
+    let mut words = owned(alloc, &["lognet"])?;
+    words.push("x".repeat(alloc, 1_048_577)?)?;
+    let outcome = run(alloc, &words, &mut files, &mut out, Kit {});
+    assert_eq!(rt; out.written(), b"error script 0\n".as_slice());
+    assert_eq!(rt; outcome.status, 2);
+    let long = vec![in alloc; b'1'; 67_108_865]?;
+    files.set("long.aag", &long)?;
+    let too_long = Row {
+        words: &["lognet", "read aiger long.aag aig"],
+        transcript: "unmet 1 TooLong\n",
+        status: 1,
+    };
+    check(&rt, alloc, &too_long, &mut files, Vec::new(alloc))?;
+    Ok(())
+}

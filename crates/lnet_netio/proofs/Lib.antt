@@ -1,0 +1,3 @@
+pub mod Numbering
+pub mod Wires
+pub mod Computes

@@ -2,7 +2,6 @@
 -- Source: the numbering of the ASCII form of AIGER with its inputs first and its gates in order.
 use Rattle.std.specs.Prelude.{◌≡◌, ℕ, zero, suc, ◌+◌, ◌<◌, ◌≤◌, ⊤, false, List, [], ◌∷◌, ◌++◌, length, map, Option, Some, None, option_and_then}
 use Rattle.std.specs.FinMap.{from_entries}
-use Rattle.lnet_gates.specs.declared.signal.Node.{Node}
 use Rattle.lnet_gates.specs.declared.signal.Signal.{Signal}
 use Rattle.lnet_gates.specs.declared.gate.Op.TheVariants.{And}
 use Rattle.lnet_gates.specs.declared.gate.Kind.TheVariants.{Aig}
@@ -62,14 +61,6 @@ pub record IsListed (inputs : ℕ) (gates : List GateValue) (outputs : List Sign
   pub few : inputs + length gates < 65536
   pub few_outputs : length outputs < 65536
 
--- a network of such lists
-pub record IsOfLists (N : NetworkValue) : Type 0 where
-  pub inputs : ℕ
-  pub gates : List GateValue
-  pub outputs : List Signal
-  pub fit : IsListed inputs gates outputs
-  pub is : N ≡ listed inputs gates outputs
-
 -- the gate that an entry is, if it is one
 abbrev pub gate_in : Entry → Option GateValue
 gate_in Constant = None
@@ -79,7 +70,3 @@ gate_in (IsGate g) = Some g
 -- the gate at a number, if one stands there
 abbrev pub gate_at : NetworkValue → ℕ → Option GateValue
 gate_at N n = option_and_then gate_in (entry_at N n)
-
--- a number as a node
-abbrev pub node_of : ℕ → Node
-node_of n = record { 0 = n }

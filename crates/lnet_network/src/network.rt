@@ -1,10 +1,9 @@
 //! A network that is given by lists, seen as the network of the definitions.
 
-ghost use Rattle.std.specs.Prelude.{◌≡◌, ◌≤◌, ◌+◌, ℕ, List, [], ◌∷◌, length, map, slice_get, option_map, option_and_then};
-ghost use Rattle.lnet_gates.specs.Gates.{GateValue};
-ghost use Rattle.lnet_model.specs.Networks.{NetworkValue, entry_at, gate_count, live_count};
+ghost use Rattle.std.specs.Prelude.{◌≡◌, length, slice_get, option_map};
+ghost use Rattle.lnet_model.specs.Networks.{gate_count, live_count};
 ghost use Rattle.lnet_model.specs.Along.{Acyclic, IsWhole};
-ghost use Rattle.lnet_network.specs.Listed.{listed, IsListed, IsOfLists, gate_at, node_of};
+ghost use Rattle.lnet_network.specs.Listed.{listed, IsListed, gate_at};
 
 use lnet_gates::{Gate, Node, Signal};
 use std::marker::Model;
@@ -51,8 +50,7 @@ impl Network {
 
     /// How many inputs there are. Constant time.
     pub fn input_count(&self) -> u32
-        ensures value { result ≡ length self.now.inputs }
-        ensures lists { IsOfLists self.now }
+        ensures { result ≡ length self.now.inputs }
     {
         self.input_count
     }
@@ -76,5 +74,51 @@ impl Network {
         ensures { result ≡ live_count self.now }
     {
         1 + self.input_count + self.gates.len() as u32
+    }
+
+    /// The gate at the node; `None` exactly where none stands there: at the constant, at an input, and past the last
+    /// node. Constant time.
+    pub fn gate_of(&self, node: Node) -> Option<&Gate>
+        ensures { option_map (λ g. g.now) result ≡ gate_at self.now node.0 }
+    {
+        let place = node.0.checked_sub(1 + self.input_count)?;
+        self.gates.get(place as usize)
+    }
+
+    /// The node of the input at the place, counted from 0; `None` exactly past the last. Constant time.
+    pub fn input_at(&self, place: u32) -> Option<Node>
+        ensures { option_map (λ n. n.0) result ≡ slice_get self.now.inputs place }
+    {
+        if place < self.input_count {
+            Some(Node(place + 1))
+        } else {
+            None
+        }
+    }
+
+    /// The output at the place, counted from 0; `None` exactly past the last. Constant time.
+    pub fn output_at(&self, place: u32) -> Option<Signal>
+        ensures { result ≡ slice_get self.now.outputs place }
+    {
+        self.outputs.get(place as usize).copied()
+    }
+
+    /// The gates in the order of their nodes, the first at node `input_count + 1`. Constant time.
+    ///
+    /// The clauses `acyclic` and `whole` are what every network of this type keeps.
+    pub fn gates(&self) -> &[Gate]
+        ensures value { self.now ≡ listed (length self.now.inputs) result.now self.now.outputs }
+        ensures fits { IsListed (length self.now.inputs) result.now self.now.outputs }
+        ensures acyclic { Acyclic self.now }
+        ensures whole { IsWhole self.now }
+    {
+        &self.gates
+    }
+
+    /// The outputs in order. Constant time.
+    pub fn outputs(&self) -> &[Signal]
+        ensures { result.now ≡ self.now.outputs }
+    {
+        &self.outputs
     }
 }

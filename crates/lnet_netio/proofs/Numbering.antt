@@ -34,7 +34,7 @@ inputs-numbered k (p ∷ ps) at = λ i. (at.0 i, Input k) ∷ inputs-numbered (k
 gates-numbered : (n : ℕ) (es : List EquationValue) → AllFrom IsGateAt n es → map gate_node es ≡ numbered n (map IsGate (map equation_gate es))
 gates-numbered n [] at = refl
 gates-numbered n (e ∷ es) (g, rest) =
-    let target : e.target ≡ n = ap (λ (x : EquationValue). x.target) g.2.2.0 in
+    let target : e.target ≡ n = ap (λ (x : EquationValue). x.target) g.2 in
     λ i. (target i, IsGate (equation_gate e)) ∷ gates-numbered (n + 1) es rest i
 
 nodes-numbered : (c : CircuitValue) → IsInOrder c → built_nodes c ≡ numbered 0 (listed_entries (length c.inputs) (gates_of c))

@@ -68,4 +68,4 @@ gate_at_place n zero (e ∷ es) ((x, y, is, low, low2), rest) h =
 gate_at_place n (suc j) (e ∷ es) at h =
     let same : (n + 1) + j ≡ n + suc j = omega arith in
     let g = gate_at_place (n + 1) j es at.1 (omega arith) in
-    (g.0, g.1, g.2.0 ∙ ap (λ t. Some (record { target = t; rule = And false; operands = g.0 ∷ g.1 ∷ [] })) same, (let l = g.2.1 in omega arith), (let l = g.2.2 in omega arith))
+    (g.0, g.1, g.2 ∙ ap (λ t. Some (record { target = t; rule = And false; operands = g.0 ∷ g.1 ∷ [] })) same, (let l = g.3 in omega arith), (let l = g.4 in omega arith))

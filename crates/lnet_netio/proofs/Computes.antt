@@ -1,10 +1,12 @@
 -- The network of a circuit computes what the circuit computes, and is exported to that circuit again.
-use Rattle.std.proofs.Common.{◌≡◌, ℕ, zero, suc, ◌+◌, ◌-◌, ◌<◌, ◌≤◌, ◌⊎◌, Bool, true, false, not, ◌&&◌, List, [], ◌∷◌, length, map, slice_get, None, Some, refl, sym, ap, subst, ◌∙◌, inl, inr, arith}
+use Rattle.std.proofs.Common.{◌≡◌, ℕ, zero, suc, ◌+◌, ◌-◌, ◌<◌, ◌≤◌, ◌⊎◌, Bool, true, false, not, ◌&&◌, List, [], ◌∷◌, length, map, flat_map, slice_get, None, Some, refl, sym, ap, subst, ◌∙◌, inl, inr, arith}
 use Rattle.std.proofs.lemmas.Option.{slice_get-map}
 use Rattle.std.specs.Option.{option_map}
+use Rattle.std.specs.FinMap.{entries, from_entries}
+use Rattle.std.specs.Ordering.{nat_cmp}
 use Rattle.lnet_gates.specs.declared.signal.Signal.{Signal}
 use Rattle.lnet_gates.specs.Gates.{GateValue, flip}
-use Rattle.lnet_model.specs.Networks.{NetworkValue}
+use Rattle.lnet_model.specs.Networks.{Entry, NetworkValue}
 use Rattle.lnet_model.specs.Along.{Acyclic}
 use Rattle.lnet_model.specs.Values.{node_value, signal_value, network_outputs}
 use Rattle.lnet_edge.specs.declared.circuit.Rule.TheVariants.{And}
@@ -12,11 +14,14 @@ use Rattle.lnet_edge.specs.declared.circuit.WireRef.{WireRef}
 use Rattle.lnet_edge.specs.declared.circuit.OutputPort.{OutputPort}
 use Rattle.lnet_edge.specs.Circuits.{CircuitValue, EquationValue, AllFrom, IsOutputOf, IsInOrder}
 use Rattle.lnet_edge.specs.Values.{equation_at, complemented, all_bits, under_rule, driven, input_or, ref_value, wire_value, circuit_outputs}
-use Rattle.lnet_network.specs.Listed.{listed}
+use Rattle.lnet_network.specs.Listed.{numbers_from, listed_entries, listed, IsListed}
+use Rattle.lnet_network.proofs.Numbered.{entries-numbered, length-numbers_from}
+use Rattle.lnet_network.proofs.Entries.{length-map}
 use Rattle.lnet_network.proofs.Whole.{listed-Acyclic}
 use Rattle.lnet_network.proofs.NodeValues.{constant_value, input_value, and_value}
-use Rattle.lnet_netio.specs.Built.{signal_of, built}
-use Rattle.lnet_netio.proofs.Numbering.{equation_gate, port_signal, gates_of, signals_of, built-listed, listed-fits}
+use Rattle.lnet_netio.specs.Built.{signal_of, built_nodes, built, entry_equation, exported}
+use Rattle.lnet_netio.proofs.Numbering.{equation_gate, port_signal, gates_of, signals_of, nodes-numbered, built-listed, listed-fits}
+use Rattle.lnet_netio.proofs.Exports.{port_of, output_of, ports-again, outputs-again, equations-again, circuit_of, exported-listed, circuit-in_order, gates_of-equations, signals-again}
 use Rattle.lnet_netio.proofs.Wires.{input_place-none, input_place-some, equation_at-none, equation_at-some, gate_at_place}
 
 pub built-Acyclic : (c : CircuitValue) → IsInOrder c → Acyclic (built c)
@@ -110,3 +115,36 @@ listing-outputs c a ord = outputs_agree c a ord 0 c.outputs ord.outputs
 
 pub outputs-built : (c : CircuitValue) (a : ℕ → Bool) → IsInOrder c → network_outputs (built c) a ≡ circuit_outputs c a
 outputs-built c a ord = ap (λ N. network_outputs N a) (built-listed c ord) ∙ listing-outputs c a ord
+
+entries-built : (c : CircuitValue) → IsInOrder c → entries (built c).nodes ≡ built_nodes c
+entries-built c ord =
+    ap (λ (es : List (ℕ × Entry)). entries (from_entries {R = nat_cmp} es)) (nodes-numbered c ord)
+    ∙ entries-numbered 0 (listed_entries (length c.inputs) (gates_of c))
+    ∙ sym (nodes-numbered c ord)
+
+pub exported-built : (c : CircuitValue) → IsInOrder c → exported (built c) ≡ c
+exported-built c ord = λ i. record {
+  inputs = ports-again c.inputs i;
+  outputs = outputs-again c.outputs i;
+  equations = (ap (flat_map entry_equation) (entries-built c ord) ∙ equations-again c) i;
+}
+
+-- ---- what a listed network is exported to builds it again, and computes what it computes
+
+circuit-built : (inputs : ℕ) (gates : List GateValue) (outputs : List Signal) → IsListed inputs gates outputs → built (circuit_of inputs gates outputs) ≡ listed inputs gates outputs
+circuit-built inputs gates outputs fit =
+    let c = circuit_of inputs gates outputs in
+    let count : length c.inputs ≡ inputs = length-map port_of (numbers_from 1 inputs) ∙ length-numbers_from 1 inputs in
+    built-listed c (circuit-in_order inputs gates outputs fit)
+    ∙ ap (λ n. listed n (gates_of c) (signals_of c)) count
+    ∙ ap (λ gs. listed inputs gs (signals_of c)) (gates_of-equations (inputs + 1) gates fit.ands)
+    ∙ ap (λ ss. listed inputs gates ss) (signals-again outputs)
+
+pub exported-IsInOrder : (N : NetworkValue) (inputs : ℕ) (gates : List GateValue) (outputs : List Signal) → N ≡ listed inputs gates outputs → IsListed inputs gates outputs → IsInOrder (exported N)
+exported-IsInOrder N inputs gates outputs is fit = subst IsInOrder (sym (ap exported is ∙ exported-listed inputs gates outputs fit.ands)) (circuit-in_order inputs gates outputs fit)
+
+pub built-exported : (N : NetworkValue) (inputs : ℕ) (gates : List GateValue) (outputs : List Signal) → N ≡ listed inputs gates outputs → IsListed inputs gates outputs → built (exported N) ≡ N
+built-exported N inputs gates outputs is fit = ap built (ap exported is ∙ exported-listed inputs gates outputs fit.ands) ∙ circuit-built inputs gates outputs fit ∙ sym is
+
+pub outputs-exported : (N : NetworkValue) (inputs : ℕ) (gates : List GateValue) (outputs : List Signal) (a : ℕ → Bool) → N ≡ listed inputs gates outputs → IsListed inputs gates outputs → circuit_outputs (exported N) a ≡ network_outputs N a
+outputs-exported N inputs gates outputs a is fit = sym (outputs-built (exported N) a (exported-IsInOrder N inputs gates outputs is fit)) ∙ ap (λ M. network_outputs M a) (built-exported N inputs gates outputs is fit)

@@ -1,3 +1,4 @@
 pub mod Numbering
 pub mod Wires
+pub mod Exports
 pub mod Computes

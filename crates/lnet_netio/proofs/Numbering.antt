@@ -37,7 +37,7 @@ gates-numbered n (e ∷ es) (g, rest) =
     let target : e.target ≡ n = ap (λ (x : EquationValue). x.target) g.2 in
     λ i. (target i, IsGate (equation_gate e)) ∷ gates-numbered (n + 1) es rest i
 
-nodes-numbered : (c : CircuitValue) → IsInOrder c → built_nodes c ≡ numbered 0 (listed_entries (length c.inputs) (gates_of c))
+pub nodes-numbered : (c : CircuitValue) → IsInOrder c → built_nodes c ≡ numbered 0 (listed_entries (length c.inputs) (gates_of c))
 nodes-numbered c ord =
     let ins = input_entries 0 (length c.inputs) in
     let gs = map IsGate (gates_of c) in

@@ -20,8 +20,9 @@ use Rattle.lnet_network.proofs.Entries.{length-map}
 use Rattle.lnet_network.proofs.Whole.{listed-Acyclic}
 use Rattle.lnet_network.proofs.NodeValues.{constant_value, input_value, and_value}
 use Rattle.lnet_netio.specs.Built.{signal_of, built_nodes, built, entry_equation, exported}
-use Rattle.lnet_netio.proofs.Numbering.{equation_gate, port_signal, gates_of, signals_of, nodes-numbered, built-listed, listed-fits}
-use Rattle.lnet_netio.proofs.Exports.{port_of, output_of, ports-again, outputs-again, equations-again, circuit_of, exported-listed, circuit-in_order, gates_of-equations, signals-again}
+use Rattle.lnet_netio.specs.Parts.{equation_gate, port_signal, port_of, output_of}
+use Rattle.lnet_netio.proofs.Numbering.{gates_of, signals_of, nodes-numbered, built-listed, listed-fits}
+use Rattle.lnet_netio.proofs.Exports.{ports-again, outputs-again, equations-again, circuit_of, exported-listed, circuit-in_order, gates_of-equations, signals-again}
 use Rattle.lnet_netio.proofs.Wires.{input_place-none, input_place-some, equation_at-none, equation_at-some, gate_at_place}
 
 pub built-Acyclic : (c : CircuitValue) → IsInOrder c → Acyclic (built c)

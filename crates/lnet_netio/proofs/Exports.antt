@@ -16,7 +16,7 @@ use Rattle.lnet_network.specs.Listed.{numbered, numbers_from, input_entries, lis
 use Rattle.lnet_network.proofs.Numbered.{numbered-append, length-numbers_from}
 use Rattle.lnet_network.proofs.Entries.{length-input_entries, length-map, entries-listed}
 use Rattle.lnet_netio.specs.Built.{signal_of, gate_of, input_nodes, gate_node, built_nodes, ref_of, gate_equation, entry_equation, exported}
-use Rattle.lnet_netio.proofs.Numbering.{equation_gate, port_signal}
+use Rattle.lnet_netio.specs.Parts.{equation_gate, port_signal, port_of, output_of, equation_of, equations_from}
 
 -- ---- back from what was built
 
@@ -45,12 +45,6 @@ equations-again c =
     ∙ ap (λ (qs : List EquationValue). qs ++ flat_map entry_equation (map gate_node c.equations)) (inputs-unequal 0 c.inputs)
     ∙ gates-again c.equations
 
-abbrev pub port_of : ℕ → InputPort
-port_of n = record { wire = record { 0 = n } }
-
-abbrev pub output_of : Signal → OutputPort
-output_of s = record { source = ref_of s }
-
 pub ports-again : (ps : List InputPort) → map port_of (map (λ (p : InputPort). p.wire.0) ps) ≡ ps
 ports-again [] = refl
 ports-again (p ∷ ps) = ap (λ qs. p ∷ qs) (ports-again ps)
@@ -60,14 +54,6 @@ outputs-again [] = refl
 outputs-again (p ∷ ps) = ap (λ qs. p ∷ qs) (outputs-again ps)
 
 -- ---- what a listed network is exported to
-
-abbrev pub equation_of : ℕ → GateValue → EquationValue
-equation_of n g = record { target = n; rule = And g.phase; operands = map ref_of g.fanins }
-
--- the equations of gates that stand from this number on
-abbrev pub equations_from : ℕ → List GateValue → List EquationValue
-equations_from n [] = []
-equations_from n (g ∷ gs) = equation_of n g ∷ equations_from (n + 1) gs
 
 pub length-equations_from : (n : ℕ) (gs : List GateValue) → length (equations_from n gs) ≡ length gs
 length-equations_from n [] = refl

@@ -12,13 +12,8 @@ use Rattle.lnet_edge.specs.Circuits.{CircuitValue, EquationValue, AllFrom, IsInp
 use Rattle.lnet_network.specs.Listed.{numbered, numbers_from, input_entries, listed_entries, listed, and_gate, AreAndsFrom, AreUpTo, IsListed}
 use Rattle.lnet_network.proofs.Numbered.{numbered-append}
 use Rattle.lnet_network.proofs.Entries.{length-input_entries, length-map}
-use Rattle.lnet_netio.specs.Built.{signal_of, gate_of, input_nodes, gate_node, built_nodes, built}
-
-abbrev pub equation_gate : EquationValue → GateValue
-equation_gate e = gate_of e.rule e.operands
-
-abbrev pub port_signal : OutputPort → Signal
-port_signal p = signal_of p.source
+use Rattle.lnet_netio.specs.Built.{signal_of, input_nodes, gate_node, built_nodes, built}
+use Rattle.lnet_netio.specs.Parts.{equation_gate, port_signal}
 
 -- the gates and the outputs of a circuit, as a network has them
 abbrev pub gates_of : CircuitValue → List GateValue

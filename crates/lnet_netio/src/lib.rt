@@ -1,5 +1,10 @@
 //! Networks built of circuits, and circuits exported from networks.
 #![tactic(auto)]
 
-ghost use Rattle.std.specs.Prelude.{◌≡◌, ◌↔◌};
-ghost use Rattle.lnet_netio.specs.Built.{built, exported};
+mod building;
+mod exporting;
+mod laws;
+
+pub use building::build;
+pub use exporting::export;
+pub use laws::{builds_keep_outputs, exports_undo_builds};

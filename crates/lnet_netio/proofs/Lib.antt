@@ -2,3 +2,4 @@ pub mod Numbering
 pub mod Wires
 pub mod Exports
 pub mod Computes
+pub mod Making

@@ -21,6 +21,7 @@ input_place-none k i w (p ∷ ps) at out =
     apart_from : (i w n q : ℕ) → q ≡ i → (w < i) ⊎ (i + suc n ≤ w) → q ≢ w
     apart_from i w n q e (inl h) = λ s. omega arith
     apart_from i w n q e (inr h) = λ s. omega arith
+
     later : (i w n : ℕ) → (w < i) ⊎ (i + suc n ≤ w) → (w < i + 1) ⊎ ((i + 1) + n ≤ w)
     later i w n (inl h) = inl (omega arith)
     later i w n (inr h) = inr (omega arith)

@@ -23,10 +23,11 @@ pub fn export(alloc: Global, net: &Network) -> Result<Circuit, AllocError>
     ensures outputs { IfOk result (λ c. (a : ℕ → Bool) → circuit_outputs c a ≡ network_outputs net.now a) }
     ensures in_order { IfOk result (λ c. IsInOrder c) }
 {
+    let count = net.input_count();
     let gates = net.gates();
-    let inputs = input_ports(alloc, net.input_count())?;
+    let inputs = input_ports(alloc, count)?;
     let outputs = output_ports(alloc, net.outputs())?;
-    let equations = equations(alloc, net.input_count() + 1, gates)?;
+    let equations = equations(alloc, count + 1, gates)?;
     Ok(Circuit::in_order(inputs, outputs, equations))
 }
 

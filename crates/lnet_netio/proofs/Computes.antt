@@ -39,7 +39,7 @@ flip-complemented : (f b : Bool) → flip f b ≡ complemented f b
 flip-complemented true b = refl
 flip-complemented false b = refl
 
-and-true : (b : Bool) → b && true ≡ b
+pub and-true : (b : Bool) → b && true ≡ b
 and-true true = refl
 and-true false = refl
 

@@ -3,3 +3,4 @@ pub mod Wires
 pub mod Exports
 pub mod Computes
 pub mod Making
+pub mod WorkedCircuit

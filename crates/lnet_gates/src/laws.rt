@@ -12,16 +12,14 @@ pub fn and_xor_rows()
     ensures differ { apply Xor false (true ∷ false ∷ []) ≡ true }
     ensures alike { apply Xor false (true ∷ true ∷ []) ≡ false }
     ensures xnor { apply Xor true (true ∷ true ∷ []) ≡ true }
-{
-}
+{}
 
 /// A majority of three is an And where the third is false, and an Or where it is true.
 pub fn majority_rows()
     ensures with_false { (a b : Bool) → apply Maj false (a ∷ b ∷ false ∷ []) ≡ a && b }
     ensures with_true { (a b : Bool) → apply Maj false (a ∷ b ∷ true ∷ []) ≡ a || b }
     ensures minority { apply Maj true (true ∷ true ∷ false ∷ []) ≡ false }
-{
-}
+{}
 
 /// Bit `i` of a table's row is the value of fanin `i`: the table `0x2` is true at the row of (1, 0), which is 1.
 pub fn table_rows()
@@ -30,5 +28,4 @@ pub fn table_rows()
     ensures row_three { apply (Lut 8) false (true ∷ true ∷ []) ≡ true }
     ensures no_fanin { apply (Lut 1) false [] ≡ true }
     ensures phase { apply (Lut 2) true (true ∷ false ∷ []) ≡ false }
-{
-}
+{}

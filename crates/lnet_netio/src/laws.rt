@@ -22,5 +22,4 @@ pub fn worked_rows()
     ensures in_order { IsInOrder nand_circuit }
     ensures circuit { (a : ℕ → Bool) → circuit_outputs nand_circuit a ≡ not (a 0 && a 1) ∷ [] }
     ensures network { (a : ℕ → Bool) → network_outputs (built nand_circuit) a ≡ not (a 0 && a 1) ∷ [] }
-{
-}
+{}

@@ -4,6 +4,8 @@
 mod building;
 mod exporting;
 mod laws;
+#[cfg(test)]
+mod tests;
 
 pub use building::build;
 pub use exporting::export;

@@ -17,8 +17,7 @@ pub fn lists_make_networks()
     ensures entries { (inputs : ℕ) (gates : List GateValue) (outputs : List Signal) → entries (listed inputs gates outputs).nodes ≡ numbered 0 (listed_entries inputs gates) }
     ensures live { (inputs : ℕ) (gates : List GateValue) (outputs : List Signal) → live_count (listed inputs gates outputs) ≡ 1 + (inputs + length gates) }
     ensures gates { (inputs : ℕ) (gates : List GateValue) (outputs : List Signal) → gate_count (listed inputs gates outputs) ≡ length gates }
-{
-}
+{}
 
 /// The constant is false, input `k` has the value of place `k` of the assignment, and a gate has both of its fanins'
 /// values.
@@ -26,5 +25,4 @@ pub fn listed_values()
     ensures constant { (inputs : ℕ) (gates : List GateValue) (outputs : List Signal) (a : ℕ → Bool) → IsListed inputs gates outputs → node_value (listed inputs gates outputs) a 0 ≡ false }
     ensures input { (inputs : ℕ) (gates : List GateValue) (outputs : List Signal) (a : ℕ → Bool) → IsListed inputs gates outputs → (k : ℕ) → k < inputs → node_value (listed inputs gates outputs) a (suc k) ≡ a k }
     ensures gate { (inputs : ℕ) (gates : List GateValue) (outputs : List Signal) (a : ℕ → Bool) → IsListed inputs gates outputs → (n i : ℕ) (x y : Signal) → n ≡ suc (inputs + i) → slice_get gates i ≡ Some (and_gate x y) → node_value (listed inputs gates outputs) a n ≡ signal_value (listed inputs gates outputs) a x && signal_value (listed inputs gates outputs) a y }
-{
-}
+{}

@@ -20,14 +20,17 @@ abbrev pub row_of : List Bool → ℕ
 row_of [] = 0
 row_of (b ∷ bs) = cond b 1 0 + 2 * row_of bs
 
+-- both of two
 abbrev pub and_of : List Bool → Bool
 and_of (a ∷ b ∷ []) = a && b
 and_of _ = false
 
+-- exactly one of two
 abbrev pub xor_of : List Bool → Bool
 xor_of (a ∷ b ∷ []) = flip a b
 xor_of _ = false
 
+-- at least two of three
 abbrev pub maj_of : List Bool → Bool
 maj_of (a ∷ b ∷ c ∷ []) = (a && b) || (c && (a || b))
 maj_of _ = false
@@ -39,6 +42,6 @@ operate Xor bs = xor_of bs
 operate Maj bs = maj_of bs
 operate (Lut t) bs = eqb (bit_at t (row_of bs)) 1
 
--- the value of a gate
+-- the value of a gate of this operation and phase, on its fanins' values
 abbrev pub apply : Op → Bool → List Bool → Bool
 apply op phase bs = flip phase (operate op bs)

@@ -2,7 +2,9 @@
 #![tactic(auto)]
 
 mod gate;
+mod laws;
 mod signal;
 
 pub use gate::{Gate, Kind, Op};
+pub use laws::{and_xor_rows, majority_rows, table_rows};
 pub use signal::{Node, Signal};

@@ -1,8 +1,9 @@
--- Recursion along fanins, the answers that are defined by it, and walks.
+-- Recursion along fanins, the answers that are defined by it, and walks. Source: walks and cycles as in graph theory.
 use Rattle.std.specs.Prelude.{◌≡◌, ◌≢◌, ℕ, zero, suc, ◌⊎◌, List, [], ◌∷◌, map, IsSome, Option, None, Some}
 use Rattle.lnet_gates.specs.declared.signal.Signal.{Signal}
 use Rattle.lnet_model.specs.Networks.{Entry, Constant, NetworkValue, Lookup, entry_at, live_count, fanins_of, IsLive}
 
+-- an answer of an entry, and another where there is none
 abbrev pub at_entry : {A : Type 0} → A → (Entry → A) → Option Entry → A
 at_entry none f None = none
 at_entry none f (Some e) = f e
@@ -27,9 +28,11 @@ abbrev pub In : ℕ → List ℕ → Type 0
 In x [] = ⊥
 In x (y ∷ ys) = (x ≡ y) ⊎ In x ys
 
+-- the numbers of the nodes that are read
 abbrev pub nodes_read : List Signal → List ℕ
 nodes_read ss = map (λ (s : Signal). s.node.0) ss
 
+-- the numbers of the nodes that an entry reads
 abbrev pub fanin_nodes : Option Entry → List ℕ
 fanin_nodes None = []
 fanin_nodes (Some e) = nodes_read (fanins_of e)
@@ -39,6 +42,7 @@ abbrev pub IsWalk : Lookup → ℕ → List ℕ → Type 0
 IsWalk g n [] = IsSome (g n)
 IsWalk g n (m ∷ ns) = IsSome (g n) × In m (fanin_nodes (g n)) × IsWalk g m ns
 
+-- the last node of n and then ns
 abbrev pub end_of : ℕ → List ℕ → ℕ
 end_of n [] = n
 end_of n (m ∷ ns) = end_of m ns
@@ -51,6 +55,7 @@ Depends N s o = (ns : List ℕ) × IsWalk (entry_at N) s.node.0 ns × (end_of s.
 abbrev pub NoCycle : Lookup → Type 0
 NoCycle g = (n m : ℕ) (ns : List ℕ) → IsWalk g n (m ∷ ns) → end_of m ns ≢ n
 
+-- a network without cycles
 abbrev pub Acyclic : NetworkValue → Type 0
 Acyclic N = NoCycle (entry_at N)
 

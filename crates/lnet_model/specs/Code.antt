@@ -1,4 +1,4 @@
--- A network can be a model's value: its code.
+-- A network can be a model's value: its code, of the codes of its parts. Each part is a tuple of numbers, flags and lists.
 use Rattle.std.specs.Prelude.{◌≡◌, ◌⊎◌, ℕ, zero, suc, Bool, List}
 use mathlib.Core.Path.{refl}
 use mathlib.Core.Logic.{inl, inr}

@@ -27,17 +27,21 @@ Lookup = ℕ → Option Entry
 unfoldable pub entry_at : NetworkValue → Lookup
 entry_at N n = get N.nodes n
 
+-- how many numbers are live
 unfoldable pub live_count : NetworkValue → ℕ
 live_count N = len N.nodes
 
+-- what an entry reads: a gate its fanins, and the others nothing
 abbrev pub fanins_of : Entry → List Signal
 fanins_of Constant = []
 fanins_of (Input k) = []
 fanins_of (IsGate g) = g.fanins
 
+-- something stands at the number
 abbrev pub IsLive : NetworkValue → ℕ → Type 0
 IsLive N n = IsSome (entry_at N n)
 
+-- whether an entry is a gate
 abbrev pub is_gate : Entry → Bool
 is_gate Constant = false
 is_gate (Input k) = false

@@ -1,4 +1,5 @@
 -- The values of a network's nodes and outputs under an assignment of its inputs.
+-- Source: the textbook meaning of a combinational network.
 use Rattle.std.specs.Prelude.{ℕ, Bool, false, List, map}
 use Rattle.lnet_gates.specs.declared.signal.Signal.{Signal}
 use Rattle.lnet_gates.specs.Gates.{flip, apply}
@@ -15,6 +16,7 @@ value_step a n (IsGate g) rs = apply g.op g.phase (map (λ r. flip r.0.complemen
 abbrev pub node_value : NetworkValue → (ℕ → Bool) → ℕ → Bool
 node_value N a n = over N (value_step a) false n
 
+-- the value of a node as it is read
 abbrev pub signal_value : NetworkValue → (ℕ → Bool) → Signal → Bool
 signal_value N a s = flip s.complement (node_value N a s.node.0)
 

@@ -4,7 +4,9 @@
 mod building;
 mod exporting;
 mod laws;
+#[cfg(test)]
+mod tests;
 
 pub use building::build;
 pub use exporting::export;
-pub use laws::{builds_keep_outputs, exports_undo_builds};
+pub use laws::{builds_keep_outputs, exports_undo_builds, worked_rows};

@@ -1,0 +1,31 @@
+//! Worked rows of what the gates compute.
+
+ghost use Rattle.std.specs.Prelude.{◌≡◌, ◌&&◌, ◌||◌, Bool, true, false, not, [], ◌∷◌};
+ghost use Rattle.lnet_gates.specs.declared.gate.Op.TheVariants.{And, Xor, Maj, Lut};
+ghost use Rattle.lnet_gates.specs.Gates.{apply};
+
+/// An And is both of two, and a Xor is exactly one of two; a phase complements the value.
+pub fn and_xor_rows()
+    ensures both { apply And false (true ∷ true ∷ []) ≡ true }
+    ensures one { apply And false (true ∷ false ∷ []) ≡ false }
+    ensures nand { (a b : Bool) → apply And true (a ∷ b ∷ []) ≡ not (a && b) }
+    ensures differ { apply Xor false (true ∷ false ∷ []) ≡ true }
+    ensures alike { apply Xor false (true ∷ true ∷ []) ≡ false }
+    ensures xnor { apply Xor true (true ∷ true ∷ []) ≡ true }
+{}
+
+/// A majority of three is an And where the third is false, and an Or where it is true.
+pub fn majority_rows()
+    ensures with_false { (a b : Bool) → apply Maj false (a ∷ b ∷ false ∷ []) ≡ a && b }
+    ensures with_true { (a b : Bool) → apply Maj false (a ∷ b ∷ true ∷ []) ≡ a || b }
+    ensures minority { apply Maj true (true ∷ true ∷ false ∷ []) ≡ false }
+{}
+
+/// Bit `i` of a table's row is the value of fanin `i`: the table `0x2` is true at the row of (1, 0), which is 1.
+pub fn table_rows()
+    ensures row_one { apply (Lut 2) false (true ∷ false ∷ []) ≡ true }
+    ensures row_two { apply (Lut 2) false (false ∷ true ∷ []) ≡ false }
+    ensures row_three { apply (Lut 8) false (true ∷ true ∷ []) ≡ true }
+    ensures no_fanin { apply (Lut 1) false [] ≡ true }
+    ensures phase { apply (Lut 2) true (true ∷ false ∷ []) ≡ false }
+{}

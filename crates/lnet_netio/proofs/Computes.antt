@@ -39,11 +39,7 @@ flip-complemented : (f b : Bool) → flip f b ≡ complemented f b
 flip-complemented true b = refl
 flip-complemented false b = refl
 
-<<<<<<< HEAD
-and-true : (b : Bool) → b && true ≡ b
-=======
 pub and-true : (b : Bool) → b && true ≡ b
->>>>>>> 56b7fbe26d1194035c3f6c82c2a3148de4477089
 and-true true = refl
 and-true false = refl
 

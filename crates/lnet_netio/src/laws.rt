@@ -1,18 +1,11 @@
 //! The laws of build and export.
 
-<<<<<<< HEAD
-ghost use Rattle.std.specs.Prelude.{◌≡◌, ℕ, Bool};
-=======
 ghost use Rattle.std.specs.Prelude.{◌≡◌, ◌&&◌, ℕ, Bool, not, [], ◌∷◌};
->>>>>>> 56b7fbe26d1194035c3f6c82c2a3148de4477089
 ghost use Rattle.lnet_model.specs.Values.{network_outputs};
 ghost use Rattle.lnet_edge.specs.Circuits.{CircuitValue, IsInOrder};
 ghost use Rattle.lnet_edge.specs.Values.{circuit_outputs};
 ghost use Rattle.lnet_netio.specs.Built.{built, exported};
-<<<<<<< HEAD
-=======
 ghost use Rattle.lnet_netio.specs.Worked.{nand_circuit};
->>>>>>> 56b7fbe26d1194035c3f6c82c2a3148de4477089
 
 /// The network of a circuit has the outputs of the circuit, under each assignment.
 pub fn builds_keep_outputs()
@@ -23,8 +16,6 @@ pub fn builds_keep_outputs()
 pub fn exports_undo_builds()
     ensures { (c : CircuitValue) → IsInOrder c → exported (built c) ≡ c }
 {}
-<<<<<<< HEAD
-=======
 
 /// The worked circuit and its network have as output the complement of the And of the two inputs, under each assignment.
 pub fn worked_rows()
@@ -32,4 +23,3 @@ pub fn worked_rows()
     ensures circuit { (a : ℕ → Bool) → circuit_outputs nand_circuit a ≡ not (a 0 && a 1) ∷ [] }
     ensures network { (a : ℕ → Bool) → network_outputs (built nand_circuit) a ≡ not (a 0 && a 1) ∷ [] }
 {}
->>>>>>> 56b7fbe26d1194035c3f6c82c2a3148de4477089

@@ -1,4 +1,6 @@
 pub mod Outside
+pub mod Faults
+pub mod Disk
 pub mod Memory
 pub mod MemorySinks
 pub mod Circuits

@@ -1,0 +1,40 @@
+-- Failed calls of files as contracts see them: how many there were, and the last one.
+use Rattle.std.specs.Prelude.{ℕ, Option, Some, None, Result, Ok, Err}
+use Rattle.lnet_edge.specs.Outside.{Call, one_more}
+use Rattle.lnet_edge.specs.declared.outside.FailedCall.{FailedCall}
+use Rattle.lnet_edge.specs.declared.outside.FetchError.{FetchError}
+use Rattle.lnet_edge.specs.declared.outside.FetchError.TheVariants as fetch
+use Rattle.lnet_edge.specs.declared.outside.PutError.{PutError}
+use Rattle.lnet_edge.specs.declared.outside.PutError.TheVariants as put
+use Rattle.lnet_edge.specs.declared.faults.Faults.{Faults}
+
+-- how many calls failed, and the last of them
+pub record FaultsValue : Type 0 where
+  pub count : ℕ
+  pub last : Option Call
+
+-- the call that a failed call was
+abbrev pub the_call : FailedCall → Call
+the_call f = record { direction = f.direction; name = f.name.items }
+
+-- the same of the last failed call, where there is one
+abbrev pub seen_call : Option FailedCall → Option Call
+seen_call None = None
+seen_call (Some f) = Some (the_call f)
+
+-- what contracts see of the faults
+abbrev pub faults_value : Faults → FaultsValue
+faults_value f = record { count = f.count; last = seen_call f.last }
+
+-- the count of faults after a fetch: one more exactly where it failed
+abbrev pub faults_after_fetch : {T : Type 0} → Result T FetchError → ℕ → ℕ
+faults_after_fetch (Ok x) before = before
+faults_after_fetch (Err fetch.Failed) before = one_more before
+faults_after_fetch (Err fetch.TooLong) before = before
+faults_after_fetch (Err fetch.NoMemory) before = before
+
+-- the count of faults after a store or a put: one more exactly where it failed
+abbrev pub faults_after_put : {T : Type 0} → Result T PutError → ℕ → ℕ
+faults_after_put (Ok x) before = before
+faults_after_put (Err put.Failed) before = one_more before
+faults_after_put (Err put.NoMemory) before = before

@@ -61,7 +61,10 @@ fn reads_and_writes(rt: HostRuntime) -> Result<(), Fail> {
         status: 0,
     };
     check(&rt, alloc, &gate, &mut files, Vec::new(alloc))?;
-    assert_eq!(rt; files.file("out.aag").ok_or("no file")?, b"aag 3 2 0 1 1\n2\n4\n7\n6 4 2\n".as_slice());
+    assert_eq!(rt;
+        files.file("out.aag").ok_or("no file")?,
+        b"aag 3 2 0 1 1\n2\n4\n7\n6 4 2\n".as_slice()
+    );
     Ok(())
 }
 
@@ -73,7 +76,10 @@ const ANSWERS: [Row; 11] = [
         status: 1,
     },
     Row {
-        words: &["lognet", "read aiger one.aag aig; read aiger no.aag aig; write aag x"],
+        words: &[
+            "lognet",
+            "read aiger one.aag aig; read aiger no.aag aig; write aag x",
+        ],
         transcript: "network aig inputs 0 outputs 1 gates 0\nunmet 2 Malformed 0 Unbuilt\nwrote 16\n",
         status: 1,
     },

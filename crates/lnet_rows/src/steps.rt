@@ -29,7 +29,13 @@ fn steps(rt: HostRuntime) -> Result<(), Fail> {
         return Err(Fail::from("a network"));
     };
     assert_eq!(rt; network.gate_count(), 1);
-    assert_eq!(rt; files.file("x").ok_or("no file")?, b"aag 3 2 0 1 1\n2\n4\n7\n6 4 2\n".as_slice());
-    assert_eq!(rt; parse_script(alloc, b"read").err(), Some(ScriptError::BadLine(1)));
+    assert_eq!(rt;
+        files.file("x").ok_or("no file")?,
+        b"aag 3 2 0 1 1\n2\n4\n7\n6 4 2\n".as_slice()
+    );
+    assert_eq!(rt;
+        parse_script(alloc, b"read").err(),
+        Some(ScriptError::BadLine(1))
+    );
     Ok(())
 }

@@ -3,8 +3,10 @@
 
 mod gate;
 mod laws;
+mod normal;
 mod signal;
 
 pub use gate::{Gate, Kind, Op};
+pub use normal::{Key, Normal};
 pub use laws::{and_xor_rows, majority_rows, table_rows};
 pub use signal::{Node, Signal};

@@ -116,9 +116,9 @@ and-sym = and-by (λ a b n. and_of_two b a ≡ n)
 
 -- ---- replacement
 
--- where node 0 stays, replacing the operands of a form gives the form of the replaced operands
-pub and-moved : (place : ℕ → Signal) → place 0 ≡ constant false → (a b : Signal) → and_form (map (moved place) (ascending (a ∷ b ∷ []))) ≡ and_of_two (moved place a) (moved place b)
-and-moved place kept a b = two-ascending (λ ss. and_form (map (moved place) ss) ≡ and_of_two (moved place a) (moved place b)) a b refl (and-sym (moved place a) (moved place b))
+-- the operands of a key, replaced, have the form of the replaced operands
+pub and-moved : (place : ℕ → Signal) (a b : Signal) → and_form (map (moved place) (ascending (a ∷ b ∷ []))) ≡ and_of_two (moved place a) (moved place b)
+and-moved place a b = two-ascending (λ ss. and_form (map (moved place) ss) ≡ and_of_two (moved place a) (moved place b)) a b refl (and-sym (moved place a) (moved place b))
 
 -- ---- values
 

@@ -1,2 +1,4 @@
 pub mod OperandLemmas
 pub mod AndForms
+pub mod FormLaws
+pub mod AndLaws

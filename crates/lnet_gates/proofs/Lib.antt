@@ -2,3 +2,5 @@ pub mod OperandLemmas
 pub mod AndForms
 pub mod FormLaws
 pub mod AndLaws
+pub mod XorForms
+pub mod XorLaws

@@ -4,3 +4,5 @@ pub mod FormLaws
 pub mod AndLaws
 pub mod XorForms
 pub mod XorLaws
+pub mod MajForms
+pub mod MajLaws

@@ -8,7 +8,7 @@ use Rattle.lnet_gates.specs.Gates.{GateValue, KeyValue, flip, operate}
 use Rattle.lnet_gates.specs.Operands.{constant, complemented, read, moved, ascending, IsNamedBy}
 use Rattle.lnet_gates.specs.NormalForms.{carried, key_form, and_of_two, and_form, normal_and}
 use Rattle.lnet_gates.specs.NormalLaws.{IsGateOf, NormalLaws, NamesOnly, IsNativeForm, form_reading, keyed_gate}
-use Rattle.lnet_gates.proofs.OperandLemmas.{by_test, flip-comm, two-ascending, moved-flipped, moved-constant}
+use Rattle.lnet_gates.proofs.OperandLemmas.{flip-comm, named-ascending, length-ascending, moved-flipped, moved-constant}
 use Rattle.lnet_gates.proofs.FormLaws.{FormLaws, formed, carried-false, normal_laws, two}
 use Rattle.lnet_gates.proofs.AndForms.{and-by, and-same, and-opposite, and-false_first, and-false_second, and-true_first, and-true_second, and-sym, and-moved, and-value}
 
@@ -20,17 +20,12 @@ and-names = and-by (λ a b n. NamesOnly (a ∷ b ∷ []) n)
     (λ a. inr refl)
     (λ b. inl (inr (inl refl)))
     (λ a. inl (inl refl))
-    (λ a b _. two-ascending (λ ss. (n : ℕ) → IsNamedBy n ss → IsNamedBy n (a ∷ b ∷ []) ⊎ (n ≡ 0)) a b (λ n h. inl h) (λ n h. inl (turned n a b h)))
-  where
-    turned : (n : ℕ) (a b : Signal) → IsNamedBy n (b ∷ a ∷ []) → IsNamedBy n (a ∷ b ∷ [])
-    turned n a b (inl h) = inr (inl h)
-    turned n a b (inr (inl h)) = inl h
-    turned n a b (inr (inr h)) = absurd h
+    (λ a b _ n h. inl (named-ascending n (a ∷ b ∷ []) h))
 
 and-native : (a b : Signal) → IsNativeForm And 2 (and_of_two a b)
 and-native = and-by (λ _ _ n. IsNativeForm And 2 n)
     (λ _. tt) (λ _. tt) (λ _. tt) (λ _. tt) (λ _. tt) (λ _. tt)
-    (λ a b _. two-ascending (λ ss. IsGateOf And 2 (keyed_gate (record { op = And; fanins = ss }) false)) a b (record { op_is = refl; count_is = refl }) (record { op_is = refl; count_is = refl }))
+    (λ a b _. record { op_is = refl; count_is = length-ascending (a ∷ b ∷ []) })
 
 and-agrees : (place : ℕ → Signal) → place 0 ≡ constant false → (a b : Signal) → and_of_two (moved place a) (moved place b) ≡ formed and_form place (and_of_two a b)
 and-agrees place kept =

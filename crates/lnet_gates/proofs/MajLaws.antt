@@ -6,7 +6,7 @@ use Rattle.lnet_gates.specs.Gates.{flip, maj_of, operate}
 use Rattle.lnet_gates.specs.Operands.{constant, flipped, ascending, read, moved, IsNamedBy}
 use Rattle.lnet_gates.specs.NormalForms.{maj_of_three, maj_form, normal_maj}
 use Rattle.lnet_gates.specs.NormalLaws.{IsGateOf, NormalLaws, NamesOnly, IsNativeForm, form_reading, keyed_gate}
-use Rattle.lnet_gates.proofs.OperandLemmas.{three-ascending, read-flipped, moved-flipped}
+use Rattle.lnet_gates.proofs.OperandLemmas.{named-ascending, length-ascending, three-ascending, read-flipped, moved-flipped}
 use Rattle.lnet_gates.proofs.FormLaws.{FormLaws, formed, normal_laws, three}
 use Rattle.lnet_gates.proofs.MajForms.{maj-by, maj-same_12, maj-same_13, maj-same_23, maj-unlike_12, maj-unlike_13, maj-unlike_23, maj-key_moved, most-swap, most-turn}
 
@@ -67,8 +67,43 @@ maj-value V =
     (λ a b. most-unlike (r b) (r a) ∙ most-turn (r b) (r a) (flip true (r b)) ∙ most-swap (r a) (r b) (flip true (r b)) ∙ ap (λ z. maj_of (r a ∷ r b ∷ z ∷ [])) (unlike b))
     (λ a b c _. key-value V (maj_of (a.complement ∷ b.complement ∷ c.complement ∷ [])) a b c)
 
--- ---- names
+-- ---- the other laws
 
--- what one of three operands in some order names, one of them names
-Covers : List Signal → List Signal → Type 0
-Covers ss ts = (n : ℕ) → IsNamedBy n ts → IsNamedBy n ss ⊎ (n ≡ 0)
+maj-names : (a b c : Signal) → NamesOnly (a ∷ b ∷ c ∷ []) (maj_of_three a b c)
+maj-names = maj-by (λ a b c n. NamesOnly (a ∷ b ∷ c ∷ []) n)
+    (λ a c. inl (inl refl))
+    (λ a b. inl (inl refl))
+    (λ a b. inl (inr (inl refl)))
+    (λ a c. inl (inr (inr (inl refl))))
+    (λ a b. inl (inr (inl refl)))
+    (λ a b. inl (inl refl))
+    (λ a b c _ n h. let t = maj_of (a.complement ∷ b.complement ∷ c.complement ∷ []) in inl (named-ascending n (flipped t a ∷ flipped t b ∷ flipped t c ∷ []) h))
+
+maj-native : (a b c : Signal) → IsNativeForm Maj 3 (maj_of_three a b c)
+maj-native = maj-by (λ _ _ _ n. IsNativeForm Maj 3 n)
+    (λ _ _. tt) (λ _ _. tt) (λ _ _. tt) (λ _ _. tt) (λ _ _. tt) (λ _ _. tt)
+    (λ a b c _. let t = maj_of (a.complement ∷ b.complement ∷ c.complement ∷ []) in record { op_is = refl; count_is = length-ascending (flipped t a ∷ flipped t b ∷ flipped t c ∷ []) })
+
+maj-agrees : (place : ℕ → Signal) (a b c : Signal) → maj_of_three (moved place a) (moved place b) (moved place c) ≡ formed maj_form place (maj_of_three a b c)
+maj-agrees place =
+    let f : Signal → Signal = moved place in
+    maj-by (λ a b c n. maj_of_three (f a) (f b) (f c) ≡ formed maj_form place n)
+    (λ a c. maj-same_12 (f a) (f c))
+    (λ a b. maj-same_13 (f a) (f b))
+    (λ a b. maj-same_23 (f a) (f b))
+    (λ a c. ap (λ s. maj_of_three (f a) s (f c)) (moved-flipped place true a) ∙ maj-unlike_12 (f a) (f c))
+    (λ a b. ap (maj_of_three (f a) (f b)) (moved-flipped place true a) ∙ maj-unlike_13 (f a) (f b))
+    (λ a b. ap (maj_of_three (f a) (f b)) (moved-flipped place true b) ∙ maj-unlike_23 (f a) (f b))
+    (λ a b c _. sym (maj-key_moved place (maj_of (a.complement ∷ b.complement ∷ c.complement ∷ [])) a b c))
+
+maj_table_laws : FormLaws Maj 3 maj_form
+maj_table_laws = record {
+  value = λ V ss _ h. three (λ ss. form_reading V (maj_form ss) ≡ operate Maj (map (read V) ss)) (maj-value V) ss h;
+  names = three (λ ss. NamesOnly ss (maj_form ss)) maj-names;
+  native = three (λ ss. IsNativeForm Maj 3 (maj_form ss)) maj-native;
+  agrees = λ place ss _ h. three (λ ss. maj_form (map (moved place) ss) ≡ formed maj_form place (maj_form ss)) (maj-agrees place) ss h
+}
+
+-- Maj's normal form has the laws of normal forms
+pub maj_laws : NormalLaws Maj 3 normal_maj
+maj_laws = normal_laws Maj 3 maj_form maj_table_laws

@@ -7,7 +7,7 @@ use Rattle.lnet_gates.specs.Gates.{flip, operate}
 use Rattle.lnet_gates.specs.Operands.{constant, flipped, plain, read, moved, IsNamedBy}
 use Rattle.lnet_gates.specs.NormalForms.{xor_of_two, xor_form, normal_xor}
 use Rattle.lnet_gates.specs.NormalLaws.{IsGateOf, NormalLaws, NamesOnly, IsNativeForm, form_reading, keyed_gate}
-use Rattle.lnet_gates.proofs.OperandLemmas.{two-ascending, moved-flipped, moved-constant}
+use Rattle.lnet_gates.proofs.OperandLemmas.{named-ascending, length-ascending, moved-flipped, moved-constant}
 use Rattle.lnet_gates.proofs.FormLaws.{FormLaws, formed, normal_laws, two}
 use Rattle.lnet_gates.proofs.XorForms.{xor-by, xor-same, xor-opposite, xor-first, xor-second, xor-moved, xor-value}
 
@@ -17,17 +17,12 @@ xor-names = xor-by (λ a b n. NamesOnly (a ∷ b ∷ []) n)
     (λ a. inr refl)
     (λ c b. inl (inr (inl refl)))
     (λ c a. inl (inl refl))
-    (λ a b _. two-ascending (λ ss. (n : ℕ) → IsNamedBy n ss → IsNamedBy n (a ∷ b ∷ []) ⊎ (n ≡ 0)) (plain a) (plain b) (λ n h. inl h) (λ n h. inl (turned n a b h)))
-  where
-    turned : (n : ℕ) (a b : Signal) → IsNamedBy n (b ∷ a ∷ []) → IsNamedBy n (a ∷ b ∷ [])
-    turned n a b (inl h) = inr (inl h)
-    turned n a b (inr (inl h)) = inl h
-    turned n a b (inr (inr h)) = absurd h
+    (λ a b _ n h. inl (named-ascending n (plain a ∷ plain b ∷ []) h))
 
 xor-native : (a b : Signal) → IsNativeForm Xor 2 (xor_of_two a b)
 xor-native = xor-by (λ _ _ n. IsNativeForm Xor 2 n)
     (λ _. tt) (λ _. tt) (λ _ _. tt) (λ _ _. tt)
-    (λ a b _. two-ascending (λ ss. IsGateOf Xor 2 (keyed_gate (record { op = Xor; fanins = ss }) (flip a.complement b.complement))) (plain a) (plain b) (record { op_is = refl; count_is = refl }) (record { op_is = refl; count_is = refl }))
+    (λ a b _. record { op_is = refl; count_is = length-ascending (plain a ∷ plain b ∷ []) })
 
 xor-agrees : (place : ℕ → Signal) → place 0 ≡ constant false → (a b : Signal) → xor_of_two (moved place a) (moved place b) ≡ formed xor_form place (xor_of_two a b)
 xor-agrees place kept =

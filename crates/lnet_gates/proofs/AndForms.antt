@@ -42,15 +42,15 @@ and-by P same opposite false_first false_second true_first true_second key a b =
     by_test (P a b) _ _ _ (λ h. subst (λ s. P a s (Is a)) (same-signal a b h) (same a)) (λ apart.
     by_test (P a b) _ _ _ (λ h. subst (λ s. P a s (Is (constant false))) (same-signal (complemented a) b h) (opposite a)) (λ unlike.
     by_test (P a b) _ _ _ (λ h. either_true _ _ h
-      (λ p. subst (λ s. P s b (Is (constant false))) (same-signal (constant false) a p) (false_first b))
-      (λ q. subst (λ s. P a s (Is (constant false))) (same-signal (constant false) b q) (false_second a))) (λ no_false.
+    (λ p. subst (λ s. P s b (Is (constant false))) (same-signal (constant false) a p) (false_first b))
+    (λ q. subst (λ s. P a s (Is (constant false))) (same-signal (constant false) b q) (false_second a))) (λ no_false.
     by_test (P a b) _ _ _ (λ h. subst (λ s. P s b (Is b)) (same-signal (constant true) a h) (true_first b)) (λ not_first.
     by_test (P a b) _ _ _ (λ h. subst (λ s. P a s (Is a)) (same-signal (constant true) b h) (true_second a)) (λ not_second.
     let f = neither_true (is_same (constant false) a) (is_same (constant false) b) no_false in
     key a b (record {
       apart = not_same-apart a b apart unlike;
       first = not_same-apart (constant false) a f.0 not_first;
-      second = not_same-apart (constant false) b f.1 not_second
+      second = not_same-apart (constant false) b f.1 not_second;
     }))))))
 
 -- ---- what each case gives, also where an earlier case takes the operands
@@ -97,8 +97,8 @@ and-key a b k =
     by_test P _ _ _ (λ h. untrue (is_same a b) h (apart-not_same a b k.apart)) (λ _.
     by_test P _ _ _ (λ h. untrue (is_same (complemented a) b) h (apart-not_same (complemented a) b k.apart)) (λ _.
     by_test P _ _ _ (λ h. either_true _ _ h
-      (λ p. untrue (is_same (constant false) a) p (apart-not_same (constant false) a k.first))
-      (λ q. untrue (is_same (constant false) b) q (apart-not_same (constant false) b k.second))) (λ _.
+    (λ p. untrue (is_same (constant false) a) p (apart-not_same (constant false) a k.first))
+    (λ q. untrue (is_same (constant false) b) q (apart-not_same (constant false) b k.second))) (λ _.
     by_test P _ _ _ (λ h. untrue (is_same (constant true) a) h (apart-not_same (constant true) a k.first)) (λ _.
     by_test P _ _ _ (λ h. untrue (is_same (constant true) b) h (apart-not_same (constant true) b k.second)) (λ _. refl)))))
 

@@ -45,7 +45,7 @@ and_table_laws = record {
   value = λ V ss zero_false h. two (λ ss. form_reading V (and_form ss) ≡ operate And (map (read V) ss)) (and-value V zero_false) ss h;
   names = two (λ ss. NamesOnly ss (and_form ss)) and-names;
   native = two (λ ss. IsNativeForm And 2 (and_form ss)) and-native;
-  agrees = λ place ss kept h. two (λ ss. and_form (map (moved place) ss) ≡ formed and_form place (and_form ss)) (and-agrees place kept) ss h
+  agrees = λ place ss kept h. two (λ ss. and_form (map (moved place) ss) ≡ formed and_form place (and_form ss)) (and-agrees place kept) ss h;
 }
 
 -- And's normal form has the laws of normal forms

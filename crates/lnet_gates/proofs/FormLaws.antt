@@ -91,7 +91,7 @@ module _ (op : Op) (count : ℕ) (form : List Signal → Normal) (laws : FormLaw
     native = λ g of. native-carried op count g.phase (form g.fanins) (laws.native g.fanins of.count_is);
     stable = stable;
     carries = λ c g. sym (carried-carried c g.phase (form g.fanins));
-    agrees = agrees
+    agrees = agrees;
   }
 
 -- ---- lists of two and of three

@@ -40,7 +40,7 @@ maj-by P same_12 same_13 same_23 unlike_12 unlike_13 unlike_23 key a b c =
     key a b c (record {
       first_second = not_same-apart a b p12 q12;
       first_third = not_same-apart a c p13 q13;
-      second_third = not_same-apart b c p23 q23
+      second_third = not_same-apart b c p23 q23;
     })))))))
 
 -- ---- what each case gives, also where an earlier case takes the operands
@@ -135,7 +135,7 @@ maj-swap = maj-by (λ a b c n. maj_of_three b a c ≡ n)
     (λ a b. maj-unlike_23 b a)
     (λ a b. maj-unlike_13 b a)
     (λ a b c k. maj-key b a c (record { first_second = apart-sym a b k.first_second; first_third = k.second_third; second_third = k.first_third })
-      ∙ one_key _ _ (λ t. flipped t b ∷ flipped t a ∷ flipped t c ∷ []) (λ t. flipped t a ∷ flipped t b ∷ flipped t c ∷ []) (most-swap a.complement b.complement c.complement) (λ t. ascending-swap (flipped t b) (flipped t a) (flipped t c)))
+    ∙ one_key _ _ (λ t. flipped t b ∷ flipped t a ∷ flipped t c ∷ []) (λ t. flipped t a ∷ flipped t b ∷ flipped t c ∷ []) (most-swap a.complement b.complement c.complement) (λ t. ascending-swap (flipped t b) (flipped t a) (flipped t c)))
 
 -- the last two may change places
 pub maj-turn : (a b c : Signal) → maj_of_three a c b ≡ maj_of_three a b c
@@ -147,7 +147,7 @@ maj-turn = maj-by (λ a b c n. maj_of_three a c b ≡ n)
     (λ a b. maj-unlike_12 a b)
     (λ a b. subst (λ s. maj_of_three a (complemented b) s ≡ Is a) (complemented-twice b) (maj-unlike_23 a (complemented b)))
     (λ a b c k. maj-key a c b (record { first_second = k.first_third; first_third = k.first_second; second_third = apart-sym b c k.second_third })
-      ∙ one_key _ _ (λ t. flipped t a ∷ flipped t c ∷ flipped t b ∷ []) (λ t. flipped t a ∷ flipped t b ∷ flipped t c ∷ []) (most-turn a.complement b.complement c.complement) (λ t. ascending-turn (flipped t a) (flipped t c) (flipped t b)))
+    ∙ one_key _ _ (λ t. flipped t a ∷ flipped t c ∷ flipped t b ∷ []) (λ t. flipped t a ∷ flipped t b ∷ flipped t c ∷ []) (most-turn a.complement b.complement c.complement) (λ t. ascending-turn (flipped t a) (flipped t c) (flipped t b)))
 
 -- ---- complementing each operand complements the form
 
@@ -170,8 +170,8 @@ maj-complemented = maj-by (λ a b c n. maj_of_three (complemented a) (complement
     (λ a b. maj-unlike_13 (complemented a) (complemented b))
     (λ a b. maj-unlike_23 (complemented a) (complemented b))
     (λ a b c k. maj-key (complemented a) (complemented b) (complemented c) (record { first_second = k.first_second; first_third = k.first_third; second_third = k.second_third })
-      ∙ ap (λ t. turned_key t (complemented a) (complemented b) (complemented c)) (most-complemented a.complement b.complement c.complement)
-      ∙ turned_twice (maj_of (a.complement ∷ b.complement ∷ c.complement ∷ [])) a b c)
+    ∙ ap (λ t. turned_key t (complemented a) (complemented b) (complemented c)) (most-complemented a.complement b.complement c.complement)
+    ∙ turned_twice (maj_of (a.complement ∷ b.complement ∷ c.complement ∷ [])) a b c)
   where
     turned_twice : (t : Bool) (a b c : Signal) → turned_key (flip true t) (complemented a) (complemented b) (complemented c) ≡ carried true (turned_key t a b c)
     turned_twice t a b c = ap (λ ss. Gate (record { op = Maj; fanins = ascending ss }) (flip true t)) (λ i. back t a i ∷ back t b i ∷ back t c i ∷ [])
@@ -204,6 +204,6 @@ maj-moved place a b c =
 pub maj-key_moved : (place : ℕ → Signal) (t : Bool) (a b c : Signal) → carried t (maj_form (map (moved place) (ascending (flipped t a ∷ flipped t b ∷ flipped t c ∷ [])))) ≡ maj_of_three (moved place a) (moved place b) (moved place c)
 maj-key_moved place t a b c =
     ap (carried t) (maj-moved place (flipped t a) (flipped t b) (flipped t c)
-      ∙ (λ i. maj_of_three (moved-flipped place t a i) (moved-flipped place t b i) (moved-flipped place t c i))
-      ∙ maj-flipped t (moved place a) (moved place b) (moved place c))
+    ∙ (λ i. maj_of_three (moved-flipped place t a i) (moved-flipped place t b i) (moved-flipped place t c i))
+    ∙ maj-flipped t (moved place a) (moved place b) (moved place c))
     ∙ carried-twice t (maj_of_three (moved place a) (moved place b) (moved place c))

@@ -101,7 +101,7 @@ maj_table_laws = record {
   value = λ V ss _ h. three (λ ss. form_reading V (maj_form ss) ≡ operate Maj (map (read V) ss)) (maj-value V) ss h;
   names = three (λ ss. NamesOnly ss (maj_form ss)) maj-names;
   native = three (λ ss. IsNativeForm Maj 3 (maj_form ss)) maj-native;
-  agrees = λ place ss _ h. three (λ ss. maj_form (map (moved place) ss) ≡ formed maj_form place (maj_form ss)) (maj-agrees place) ss h
+  agrees = λ place ss _ h. three (λ ss. maj_form (map (moved place) ss) ≡ formed maj_form place (maj_form ss)) (maj-agrees place) ss h;
 }
 
 -- Maj's normal form has the laws of normal forms

@@ -39,7 +39,7 @@ xor-by P same opposite first second key a b =
     key a b (record {
       apart = not_same-apart a b apart unlike;
       first = not_same-apart (constant false) a not_false_first not_true_first;
-      second = not_same-apart (constant false) b not_false_second not_true_second
+      second = not_same-apart (constant false) b not_false_second not_true_second;
     })))))))
 
 -- ---- what each case gives, also where an earlier case takes the operands
@@ -95,7 +95,7 @@ xor-sym = xor-by (λ a b n. xor_of_two b a ≡ n)
     xor-second
     xor-first
     (λ a b k. xor-key b a (record { apart = apart-sym a b k.apart; first = k.second; second = k.first })
-      ∙ (λ i. Gate (record { op = Xor; fanins = ascending-sym (plain b) (plain a) i }) (flip-comm b.complement a.complement i)))
+    ∙ (λ i. Gate (record { op = Xor; fanins = ascending-sym (plain b) (plain a) i }) (flip-comm b.complement a.complement i)))
 
 pub xor-complemented : (a b : Signal) → xor_of_two (complemented a) b ≡ carried true (xor_of_two a b)
 xor-complemented = xor-by (λ a b n. xor_of_two (complemented a) b ≡ carried true n)
@@ -104,7 +104,7 @@ xor-complemented = xor-by (λ a b n. xor_of_two (complemented a) b ≡ carried t
     (λ c b. xor-first (flip true c) b ∙ ap Is (sym (flipped-flipped true c b)))
     (λ c a. xor-second c (complemented a) ∙ ap Is (flipped-flipped c true a ∙ ap (λ d. flipped d a) (flip-comm c true) ∙ sym (flipped-flipped true c a)))
     (λ a b k. xor-key (complemented a) b (record { apart = k.apart; first = k.first; second = k.second })
-      ∙ ap (Gate (record { op = Xor; fanins = ascending (plain a ∷ plain b ∷ []) })) (flip-flip true a.complement b.complement))
+    ∙ ap (Gate (record { op = Xor; fanins = ascending (plain a ∷ plain b ∷ []) })) (flip-flip true a.complement b.complement))
 
 pub xor-flipped : (c : Bool) (a b : Signal) → xor_of_two (flipped c a) b ≡ carried c (xor_of_two a b)
 xor-flipped true a b = xor-complemented a b
@@ -163,4 +163,4 @@ xor-value V zero_false = xor-by (λ a b n. form_reading V n ≡ xor_of (read V a
     (λ c b. read-flipped V c b ∙ ap (λ x. xor_of (x ∷ read V b ∷ [])) (sym (read-constant V c zero_false)))
     (λ c a. read-flipped V c a ∙ flip-comm c (read V a) ∙ ap (λ y. xor_of (read V a ∷ y ∷ [])) (sym (read-constant V c zero_false)))
     (λ a b _. ap (flip (flip a.complement b.complement)) (two-ascending (λ ss. xor_of (map (read V) ss) ≡ xor_of (V a.node.0 ∷ V b.node.0 ∷ [])) (plain a) (plain b) refl (flip-comm (V b.node.0) (V a.node.0)))
-      ∙ xor-bits a.complement b.complement (V a.node.0) (V b.node.0))
+    ∙ xor-bits a.complement b.complement (V a.node.0) (V b.node.0))

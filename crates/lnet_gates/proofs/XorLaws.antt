@@ -40,7 +40,7 @@ xor_table_laws = record {
   value = λ V ss zero_false h. two (λ ss. form_reading V (xor_form ss) ≡ operate Xor (map (read V) ss)) (xor-value V zero_false) ss h;
   names = two (λ ss. NamesOnly ss (xor_form ss)) xor-names;
   native = two (λ ss. IsNativeForm Xor 2 (xor_form ss)) xor-native;
-  agrees = λ place ss kept h. two (λ ss. xor_form (map (moved place) ss) ≡ formed xor_form place (xor_form ss)) (xor-agrees place kept) ss h
+  agrees = λ place ss kept h. two (λ ss. xor_form (map (moved place) ss) ≡ formed xor_form place (xor_form ss)) (xor-agrees place kept) ss h;
 }
 
 -- Xor's normal form has the laws of normal forms

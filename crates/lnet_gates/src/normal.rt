@@ -1,5 +1,8 @@
 //! Normal forms of gates: an existing signal, or a key with a phase.
 
+ghost use Rattle.std.specs.Prelude.{◌≡◌};
+ghost use Rattle.lnet_gates.specs.NormalForms as forms;
+
 use crate::gate::Op;
 use crate::signal::Signal;
 use arrayvec::ArrayVec;
@@ -29,4 +32,17 @@ pub enum Normal {
     Is(Signal),
     /// The gate has the value of the key, complemented where the phase is true.
     Gate(Key, bool),
+}
+
+impl Normal {
+    /// The normal form, complemented where `change` is true: a signal is complemented, a key's phase is changed. Constant
+    /// time.
+    pub fn carried(self, change: bool) -> Normal
+        ensures { result ≡ forms.carried change self }
+    {
+        match self {
+            Normal::Is(signal) => Normal::Is(signal.flipped(change)),
+            Normal::Gate(key, phase) => Normal::Gate(key, change != phase),
+        }
+    }
 }

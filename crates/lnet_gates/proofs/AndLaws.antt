@@ -1,16 +1,16 @@
 -- The laws of And's normal form.
-use Rattle.std.proofs.Common.{◌≡◌, ℕ, Bool, true, false, ◌⊎◌, List, [], ◌∷◌, map, length, refl, sym, ap, subst, ◌∙◌, inl, inr}
+use Rattle.std.proofs.Common.{◌≡◌, ℕ, Bool, true, false, [], ◌∷◌, map, refl, sym, ap, subst, ◌∙◌, inl, inr}
 use Rattle.lnet_gates.specs.declared.signal.Signal.{Signal}
 use Rattle.lnet_gates.specs.declared.gate.Op.TheVariants.{And}
 use Rattle.lnet_gates.specs.declared.normal.Normal.{Normal}
 use Rattle.lnet_gates.specs.declared.normal.Normal.TheVariants.{Is, Gate}
 use Rattle.lnet_gates.specs.Gates.{GateValue, KeyValue, flip, operate}
-use Rattle.lnet_gates.specs.Operands.{constant, complemented, read, moved, ascending, IsNamedBy}
-use Rattle.lnet_gates.specs.NormalForms.{carried, key_form, and_of_two, and_form, normal_and}
-use Rattle.lnet_gates.specs.NormalLaws.{IsGateOf, NormalLaws, NamesOnly, IsNativeForm, form_reading, keyed_gate}
+use Rattle.lnet_gates.specs.Operands.{constant, read, moved, ascending}
+use Rattle.lnet_gates.specs.NormalForms.{carried, and_of_two, and_form, normal_and}
+use Rattle.lnet_gates.specs.NormalLaws.{IsGateOf, NormalLaws, NamesOnly, IsNativeForm, form_reading}
 use Rattle.lnet_gates.proofs.OperandLemmas.{flip-comm, named-ascending, length-ascending, moved-flipped, moved-constant}
 use Rattle.lnet_gates.proofs.FormLaws.{FormLaws, formed, carried-false, normal_laws, two}
-use Rattle.lnet_gates.proofs.AndForms.{and-by, and-same, and-opposite, and-false_first, and-false_second, and-true_first, and-true_second, and-sym, and-moved, and-value}
+use Rattle.lnet_gates.proofs.AndForms.{and-by, and-same, and-opposite, and-false_first, and-false_second, and-true_first, and-true_second, and-moved, and-value}
 
 and-names : (a b : Signal) → NamesOnly (a ∷ b ∷ []) (and_of_two a b)
 and-names = and-by (λ a b n. NamesOnly (a ∷ b ∷ []) n)
@@ -22,8 +22,8 @@ and-names = and-by (λ a b n. NamesOnly (a ∷ b ∷ []) n)
     (λ a. inl (inl refl))
     (λ a b _ n h. inl (named-ascending n (a ∷ b ∷ []) h))
 
-and-native : (a b : Signal) → IsNativeForm And 2 (and_of_two a b)
-and-native = and-by (λ _ _ n. IsNativeForm And 2 n)
+and-native : (a b : Signal) → IsNativeForm (IsGateOf And 2) (and_of_two a b)
+and-native = and-by (λ _ _ n. IsNativeForm (IsGateOf And 2) n)
     (λ _. tt) (λ _. tt) (λ _. tt) (λ _. tt) (λ _. tt) (λ _. tt)
     (λ a b _. record { op_is = refl; count_is = length-ascending (a ∷ b ∷ []) })
 
@@ -44,12 +44,12 @@ and_table_laws : FormLaws And 2 and_form
 and_table_laws = record {
   value = λ V ss zero_false h. two (λ ss. form_reading V (and_form ss) ≡ operate And (map (read V) ss)) (and-value V zero_false) ss h;
   names = two (λ ss. NamesOnly ss (and_form ss)) and-names;
-  native = two (λ ss. IsNativeForm And 2 (and_form ss)) and-native;
+  native = two (λ ss. IsNativeForm (IsGateOf And 2) (and_form ss)) and-native;
   agrees = λ place ss kept h. two (λ ss. and_form (map (moved place) ss) ≡ formed and_form place (and_form ss)) (and-agrees place kept) ss h;
 }
 
 -- And's normal form has the laws of normal forms
-pub and_laws : NormalLaws And 2 normal_and
+pub and_laws : NormalLaws (IsGateOf And 2) normal_and
 and_laws = normal_laws And 2 and_form and_table_laws
 
 -- a form whose key, if it is one, has the phase c

@@ -1,11 +1,11 @@
 -- The laws of a table of forms without a phase, and how a gate's normal form has them from its table.
-use Rattle.std.proofs.Common.{◌≡◌, ℕ, suc, Bool, true, false, ◌⊎◌, List, [], ◌∷◌, map, length, refl, sym, ap, subst, ◌∙◌, inl, inr, arith}
+use Rattle.std.proofs.Common.{◌≡◌, ℕ, Bool, true, false, List, [], ◌∷◌, map, length, refl, sym, ap, ◌∙◌, arith}
 use Rattle.lnet_gates.specs.declared.signal.Signal.{Signal}
 use Rattle.lnet_gates.specs.declared.gate.Op.{Op}
 use Rattle.lnet_gates.specs.declared.normal.Normal.{Normal}
 use Rattle.lnet_gates.specs.declared.normal.Normal.TheVariants.{Is, Gate}
 use Rattle.lnet_gates.specs.Gates.{GateValue, KeyValue, flip, operate}
-use Rattle.lnet_gates.specs.Operands.{constant, flipped, read, moved, IsNamedBy}
+use Rattle.lnet_gates.specs.Operands.{constant, read, moved}
 use Rattle.lnet_gates.specs.NormalForms.{carried}
 use Rattle.lnet_gates.specs.NormalLaws.{IsGateOf, NormalLaws, NamesOnly, IsNativeForm, form_reading, gate_reading, formed_again, keyed_gate, replaced_in}
 use Rattle.lnet_gates.proofs.OperandLemmas.{flip-flip, flip-comm, flipped-flipped, read-flipped, moved-flipped}
@@ -19,7 +19,7 @@ formed form place (Gate k phase) = carried phase (form (map (moved place) k.fani
 pub record FormLaws (op : Op) (count : ℕ) (form : List Signal → Normal) : Type 0 where
   pub value : (V : ℕ → Bool) (ss : List Signal) → V 0 ≡ false → length ss ≡ count → form_reading V (form ss) ≡ operate op (map (read V) ss)
   pub names : (ss : List Signal) → length ss ≡ count → NamesOnly ss (form ss)
-  pub native : (ss : List Signal) → length ss ≡ count → IsNativeForm op count (form ss)
+  pub native : (ss : List Signal) → length ss ≡ count → IsNativeForm (IsGateOf op count) (form ss)
   pub agrees : (place : ℕ → Signal) (ss : List Signal) → place 0 ≡ constant false → length ss ≡ count → form (map (moved place) ss) ≡ formed form place (form ss)
 
 -- ---- the phase
@@ -44,7 +44,7 @@ names-carried : (ss : List Signal) (c : Bool) (n : Normal) → NamesOnly ss n �
 names-carried ss c (Is s) h = h
 names-carried ss c (Gate k phase) h = h
 
-native-carried : (op : Op) (count : ℕ) (c : Bool) (n : Normal) → IsNativeForm op count n → IsNativeForm op count (carried c n)
+native-carried : (op : Op) (count : ℕ) (c : Bool) (n : Normal) → IsNativeForm (IsGateOf op count) n → IsNativeForm (IsGateOf op count) (carried c n)
 native-carried op count c (Is s) h = tt
 native-carried op count c (Gate k phase) h = record { op_is = h.op_is; count_is = h.count_is }
 
@@ -84,7 +84,7 @@ module _ (op : Op) (count : ℕ) (form : List Signal → Normal) (laws : FormLaw
       ∙ is_key
 
   -- a gate's normal form has the laws that its table has
-  pub normal_laws : NormalLaws op count normal
+  pub normal_laws : NormalLaws (IsGateOf op count) normal
   normal_laws = record {
     value = value;
     names = λ g of. names-carried g.fanins g.phase (form g.fanins) (laws.names g.fanins of.count_is);

@@ -1,5 +1,5 @@
 -- The table of Maj: its cases, what each of them gives, and its symmetries.
-use Rattle.std.proofs.Common.{◌≡◌, ℕ, Bool, true, false, cond, List, [], ◌∷◌, map, refl, sym, ap, subst, ◌∙◌}
+use Rattle.std.proofs.Common.{◌≡◌, ℕ, Bool, true, false, List, [], ◌∷◌, map, refl, sym, ap, subst, ◌∙◌}
 use Rattle.lnet_gates.specs.declared.signal.Signal.{Signal}
 use Rattle.lnet_gates.specs.declared.gate.Op.TheVariants.{Maj}
 use Rattle.lnet_gates.specs.declared.normal.Normal.{Normal}
@@ -7,7 +7,7 @@ use Rattle.lnet_gates.specs.declared.normal.Normal.TheVariants.{Is, Gate}
 use Rattle.lnet_gates.specs.Gates.{flip, maj_of}
 use Rattle.lnet_gates.specs.Operands.{flipped, complemented, is_same, ascending, moved}
 use Rattle.lnet_gates.specs.NormalForms.{carried, key_form, turned_key, maj_of_three, maj_form}
-use Rattle.lnet_gates.proofs.OperandLemmas.{by_test, untrue, same-signal, same-self, not_complement, flip-comm, flipped-flipped, complemented-twice, Apart, apart-sym, apart-not_same, not_same-apart, ascending-swap, ascending-turn, three-ascending, moved-flipped}
+use Rattle.lnet_gates.proofs.OperandLemmas.{by_test, untrue, same-signal, same-self, not_complement, complemented-twice, Apart, apart-sym, apart-not_same, not_same-apart, ascending-swap, ascending-turn, three-ascending, moved-flipped}
 use Rattle.lnet_gates.proofs.FormLaws.{carried-false, carried-twice}
 
 -- operands that no earlier case takes

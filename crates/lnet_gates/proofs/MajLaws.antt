@@ -1,11 +1,11 @@
 -- The laws of Maj's normal form.
-use Rattle.std.proofs.Common.{◌≡◌, ℕ, Bool, true, false, ◌⊎◌, List, [], ◌∷◌, map, refl, sym, ap, ◌∙◌, inl, inr}
+use Rattle.std.proofs.Common.{◌≡◌, ℕ, Bool, true, false, [], ◌∷◌, map, refl, sym, ap, ◌∙◌, inl, inr}
 use Rattle.lnet_gates.specs.declared.signal.Signal.{Signal}
 use Rattle.lnet_gates.specs.declared.gate.Op.TheVariants.{Maj}
 use Rattle.lnet_gates.specs.Gates.{flip, maj_of, operate}
-use Rattle.lnet_gates.specs.Operands.{constant, flipped, ascending, read, moved, IsNamedBy}
+use Rattle.lnet_gates.specs.Operands.{flipped, ascending, read, moved}
 use Rattle.lnet_gates.specs.NormalForms.{maj_of_three, maj_form, normal_maj}
-use Rattle.lnet_gates.specs.NormalLaws.{IsGateOf, NormalLaws, NamesOnly, IsNativeForm, form_reading, keyed_gate}
+use Rattle.lnet_gates.specs.NormalLaws.{IsGateOf, NormalLaws, NamesOnly, IsNativeForm, form_reading}
 use Rattle.lnet_gates.proofs.OperandLemmas.{named-ascending, length-ascending, three-ascending, read-flipped, moved-flipped}
 use Rattle.lnet_gates.proofs.FormLaws.{FormLaws, formed, normal_laws, three}
 use Rattle.lnet_gates.proofs.MajForms.{maj-by, maj-same_12, maj-same_13, maj-same_23, maj-unlike_12, maj-unlike_13, maj-unlike_23, maj-key_moved, most-swap, most-turn}
@@ -79,8 +79,8 @@ maj-names = maj-by (λ a b c n. NamesOnly (a ∷ b ∷ c ∷ []) n)
     (λ a b. inl (inl refl))
     (λ a b c _ n h. let t = maj_of (a.complement ∷ b.complement ∷ c.complement ∷ []) in inl (named-ascending n (flipped t a ∷ flipped t b ∷ flipped t c ∷ []) h))
 
-maj-native : (a b c : Signal) → IsNativeForm Maj 3 (maj_of_three a b c)
-maj-native = maj-by (λ _ _ _ n. IsNativeForm Maj 3 n)
+maj-native : (a b c : Signal) → IsNativeForm (IsGateOf Maj 3) (maj_of_three a b c)
+maj-native = maj-by (λ _ _ _ n. IsNativeForm (IsGateOf Maj 3) n)
     (λ _ _. tt) (λ _ _. tt) (λ _ _. tt) (λ _ _. tt) (λ _ _. tt) (λ _ _. tt)
     (λ a b c _. let t = maj_of (a.complement ∷ b.complement ∷ c.complement ∷ []) in record { op_is = refl; count_is = length-ascending (flipped t a ∷ flipped t b ∷ flipped t c ∷ []) })
 
@@ -100,10 +100,10 @@ maj_table_laws : FormLaws Maj 3 maj_form
 maj_table_laws = record {
   value = λ V ss _ h. three (λ ss. form_reading V (maj_form ss) ≡ operate Maj (map (read V) ss)) (maj-value V) ss h;
   names = three (λ ss. NamesOnly ss (maj_form ss)) maj-names;
-  native = three (λ ss. IsNativeForm Maj 3 (maj_form ss)) maj-native;
+  native = three (λ ss. IsNativeForm (IsGateOf Maj 3) (maj_form ss)) maj-native;
   agrees = λ place ss _ h. three (λ ss. maj_form (map (moved place) ss) ≡ formed maj_form place (maj_form ss)) (maj-agrees place) ss h;
 }
 
 -- Maj's normal form has the laws of normal forms
-pub maj_laws : NormalLaws Maj 3 normal_maj
+pub maj_laws : NormalLaws (IsGateOf Maj 3) normal_maj
 maj_laws = normal_laws Maj 3 maj_form maj_table_laws

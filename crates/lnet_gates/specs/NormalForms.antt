@@ -1,12 +1,12 @@
 -- Normal forms of gates: the gate is an existing signal, or a key with a phase. Sources: the rules of structural hashing of
 -- and-inverter graphs (Kuehlmann and Krohm 1997) and of majority-inverter graphs (Amarù, Gaillardon and De Micheli 2014).
-use Rattle.std.specs.Prelude.{ℕ, Bool, true, false, cond, ◌||◌, List, [], ◌∷◌, map}
+use Rattle.std.specs.Prelude.{Bool, true, false, cond, ◌||◌, List, [], ◌∷◌}
 use Rattle.lnet_gates.specs.declared.signal.Signal.{Signal}
 use Rattle.lnet_gates.specs.declared.gate.Op.{Op}
 use Rattle.lnet_gates.specs.declared.gate.Op.TheVariants.{And, Xor, Maj}
 use Rattle.lnet_gates.specs.declared.normal.Normal.{Normal}
 use Rattle.lnet_gates.specs.declared.normal.Normal.TheVariants.{Is, Gate}
-use Rattle.lnet_gates.specs.Gates.{GateValue, KeyValue, flip, maj_of}
+use Rattle.lnet_gates.specs.Gates.{GateValue, flip, maj_of}
 use Rattle.lnet_gates.specs.Operands.{flipped, complemented, plain, constant, is_same, ascending}
 
 -- a normal form, complemented where c: a signal is complemented, a key's phase is changed

@@ -1,6 +1,6 @@
 -- What a normal form keeps: the value, the nodes that are named, itself, and replacement of nodes by signals. Source: the
 -- textbook notion of a canonical form that is a congruence.
-use Rattle.std.specs.Prelude.{◌≡◌, ℕ, ◌⊎◌, Bool, true, false, List, map, length}
+use Rattle.std.specs.Prelude.{◌≡◌, ℕ, ◌⊎◌, Bool, false, List, map, length}
 use Rattle.lnet_gates.specs.declared.signal.Signal.{Signal}
 use Rattle.lnet_gates.specs.declared.gate.Op.{Op}
 use Rattle.lnet_gates.specs.declared.normal.Normal.{Normal}
@@ -45,22 +45,22 @@ abbrev pub NamesOnly : List Signal → Normal → Type 0
 NamesOnly ss (Is s) = IsNamedBy s.node.0 ss ⊎ (s.node.0 ≡ 0)
 NamesOnly ss (Gate k phase) = (n : ℕ) → IsNamedBy n k.fanins → IsNamedBy n ss ⊎ (n ≡ 0)
 
--- a form whose key, if it is one, has the operation and this many fanins
-abbrev pub IsNativeForm : Op → ℕ → Normal → Type 0
-IsNativeForm op count (Is s) = Unit
-IsNativeForm op count (Gate k phase) = IsGateOf op count (keyed_gate k phase)
+-- a form whose key's gate, if it is a key, is native
+abbrev pub IsNativeForm : (GateValue → Type 0) → Normal → Type 0
+IsNativeForm Native (Is s) = Unit
+IsNativeForm Native (Gate k phase) = Native (keyed_gate k phase)
 
--- what the normal form of the gates of an operation keeps
-pub record NormalLaws (op : Op) (count : ℕ) (normal : GateValue → Normal) : Type 0 where
+-- what a normal form of the gates that are native keeps
+pub record NormalLaws (Native : GateValue → Type 0) (normal : GateValue → Normal) : Type 0 where
   -- its value is the gate's, wherever node 0 is false
-  pub value : (V : ℕ → Bool) (g : GateValue) → V 0 ≡ false → IsGateOf op count g → form_reading V (normal g) ≡ gate_reading V g
+  pub value : (V : ℕ → Bool) (g : GateValue) → V 0 ≡ false → Native g → form_reading V (normal g) ≡ gate_reading V g
   -- it names nodes of the gate's fanins, or node 0
-  pub names : (g : GateValue) → IsGateOf op count g → NamesOnly g.fanins (normal g)
-  -- a key has the operation, with as many fanins as it takes
-  pub native : (g : GateValue) → IsGateOf op count g → IsNativeForm op count (normal g)
+  pub names : (g : GateValue) → Native g → NamesOnly g.fanins (normal g)
+  -- a key's gate is native
+  pub native : (g : GateValue) → Native g → IsNativeForm Native (normal g)
   -- a key's gate is its own normal form
-  pub stable : (g : GateValue) (k : KeyValue) (phase : Bool) → IsGateOf op count g → normal g ≡ Gate k phase → normal (keyed_gate k phase) ≡ Gate k phase
+  pub stable : (g : GateValue) (k : KeyValue) (phase : Bool) → Native g → normal g ≡ Gate k phase → normal (keyed_gate k phase) ≡ Gate k phase
   -- a gate's phase is carried to its normal form
   pub carries : (c : Bool) (g : GateValue) → normal (rephased c g) ≡ carried c (normal g)
   -- nodes may be replaced before or after, if node 0 stays
-  pub agrees : (place : ℕ → Signal) (g : GateValue) → place 0 ≡ constant false → IsGateOf op count g → normal (replaced_in place g) ≡ formed_again normal place (normal g)
+  pub agrees : (place : ℕ → Signal) (g : GateValue) → place 0 ≡ constant false → Native g → normal (replaced_in place g) ≡ formed_again normal place (normal g)

@@ -35,16 +35,16 @@ pub fn table_rows()
 
 /// The normal form of And keeps values, names, itself and replacement, and a key of it has the gate's phase.
 pub fn and_forms_are_lawful()
-    ensures laws { NormalLaws And 2 normal_and }
+    ensures laws { NormalLaws (IsGateOf And 2) normal_and }
     ensures phase { (g : GateValue) (k : KeyValue) (phase : Bool) → IsGateOf And 2 g → normal_and g ≡ Gate k phase → phase ≡ g.phase }
 {}
 
 /// The normal form of Xor keeps values, names, itself and replacement.
 pub fn xor_forms_are_lawful()
-    ensures { NormalLaws Xor 2 normal_xor }
+    ensures { NormalLaws (IsGateOf Xor 2) normal_xor }
 {}
 
 /// The normal form of Maj keeps values, names, itself and replacement.
 pub fn maj_forms_are_lawful()
-    ensures { NormalLaws Maj 3 normal_maj }
+    ensures { NormalLaws (IsGateOf Maj 3) normal_maj }
 {}

@@ -48,8 +48,8 @@ xor_of_two a b =
 abbrev pub turned_key : Bool → Signal → Signal → Signal → Normal
 turned_key most a b c = key_form Maj (flipped most a ∷ flipped most b ∷ flipped most c ∷ []) most
 
--- Maj of three: two equal operands give that operand, two complementary ones the third; where most operands of a key are
--- complemented, each is turned, and the phase is true
+-- Maj of three: two equal operands give that operand, two complementary ones the third; where most operands of a key have a
+-- complement, each is complemented, and the phase is true
 abbrev pub maj_of_three : Signal → Signal → Signal → Normal
 maj_of_three a b c =
     cond (is_same a b) (Is a)

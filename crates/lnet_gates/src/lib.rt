@@ -6,6 +6,8 @@ mod gate;
 mod laws;
 mod normal;
 mod signal;
+#[cfg(test)]
+mod tests;
 
 pub use forming::{normal_and, normal_maj, normal_xor};
 pub use gate::{Gate, Kind, Op};

@@ -11,6 +11,11 @@ pub record GateValue : Type 0 where
   pub phase : Bool
   pub fanins : List Signal
 
+-- a key is an operation and the list of its fanins: a gate but for its phase
+pub record KeyValue : Type 0 where
+  pub op : Op
+  pub fanins : List Signal
+
 -- a bit, complemented where the flag is set
 abbrev pub flip : Bool → Bool → Bool
 flip c b = cond c (not b) b

@@ -1,1 +1,4 @@
 pub mod Gates
+pub mod Operands
+pub mod NormalForms
+pub mod NormalLaws

@@ -1,8 +1,11 @@
-//! Worked rows of what the gates compute.
+//! Worked rows of what the gates compute, and the laws of their normal forms.
 
 ghost use Rattle.std.specs.Prelude.{◌≡◌, ◌&&◌, ◌||◌, Bool, true, false, not, [], ◌∷◌};
 ghost use Rattle.lnet_gates.specs.declared.gate.Op.TheVariants.{And, Xor, Maj, Lut};
-ghost use Rattle.lnet_gates.specs.Gates.{apply};
+ghost use Rattle.lnet_gates.specs.declared.normal.Normal.TheVariants.{Gate};
+ghost use Rattle.lnet_gates.specs.Gates.{GateValue, KeyValue, apply};
+ghost use Rattle.lnet_gates.specs.NormalForms.{normal_and, normal_xor, normal_maj};
+ghost use Rattle.lnet_gates.specs.NormalLaws.{NormalLaws, IsGateOf};
 
 /// An And is both of two, and a Xor is exactly one of two; a phase complements the value.
 pub fn and_xor_rows()
@@ -28,4 +31,20 @@ pub fn table_rows()
     ensures row_three { apply (Lut 8) false (true ∷ true ∷ []) ≡ true }
     ensures no_fanin { apply (Lut 1) false [] ≡ true }
     ensures phase { apply (Lut 2) true (true ∷ false ∷ []) ≡ false }
+{}
+
+/// The normal form of And keeps values, names, itself and replacement, and a key of it has the gate's phase.
+pub fn and_forms_are_lawful()
+    ensures laws { NormalLaws (IsGateOf And 2) normal_and }
+    ensures phase { (g : GateValue) (k : KeyValue) (phase : Bool) → IsGateOf And 2 g → normal_and g ≡ Gate k phase → phase ≡ g.phase }
+{}
+
+/// The normal form of Xor keeps values, names, itself and replacement.
+pub fn xor_forms_are_lawful()
+    ensures { NormalLaws (IsGateOf Xor 2) normal_xor }
+{}
+
+/// The normal form of Maj keeps values, names, itself and replacement.
+pub fn maj_forms_are_lawful()
+    ensures { NormalLaws (IsGateOf Maj 3) normal_maj }
 {}

@@ -1,10 +1,19 @@
 //! The plain types of logic networks: nodes, signals, kinds, operations and gates.
 #![tactic(auto)]
 
+mod forming;
 mod gate;
 mod laws;
+mod normal;
 mod signal;
+#[cfg(test)]
+mod tests;
 
+pub use forming::{normal_and, normal_maj, normal_xor};
 pub use gate::{Gate, Kind, Op};
-pub use laws::{and_xor_rows, majority_rows, table_rows};
+pub use laws::{
+    and_forms_are_lawful, and_xor_rows, maj_forms_are_lawful, majority_rows, table_rows,
+    xor_forms_are_lawful,
+};
+pub use normal::{Key, Normal};
 pub use signal::{Node, Signal};

@@ -1,0 +1,6 @@
+use Rattle.std.proofs.Common.{◌≡◌, ◌≤◌}
+use Rattle.lnet_tables.specs.Kept.{rank}
+use Rattle.lnet_tables.proofs.rows.count_places.Given as goal
+
+abbrev pub invariant-loop-index : goal.invariant-loop-index
+invariant-loop-index l = record { count : l.kept ≡ rank l.support l.index; few : l.kept ≤ l.index }

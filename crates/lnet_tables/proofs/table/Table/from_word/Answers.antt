@@ -1,0 +1,11 @@
+use Rattle.std.proofs.Common.{◌∙◌, arith}
+use Rattle.lnet_tables.specs.Bits.{is_set}
+use Rattle.lnet_tables.proofs.WordRows.{first_row}
+use Rattle.lnet_tables.proofs.Constants.{pow_within}
+use Rattle.lnet_tables.proofs.Ops.{same_rows}
+use Rattle.lnet_tables.proofs.table.Table.from_word.Goals as goal
+
+pub returns : goal.returns
+returns c =
+    c.from_words.ensures ∙ same_rows c.args.vars _ (is_set c.args.word) (λ r lt.
+    first_row _ r (omega (arith, pow_within c.args.vars 6 c.requires)))

@@ -1,0 +1,83 @@
+//! The words of the tables that all others are made from: all true, and a single variable.
+
+ghost use Rattle.std.specs.Prelude.{◌≡◌, ℕ, ◌^◌, ◌<◌, ◌≤◌, nat_lt, not};
+ghost use Rattle.lnet_tables.specs.Bits.{is_set};
+ghost use Rattle.lnet_tables.specs.Words.{word_bit};
+
+/// A word of 64 rows that are all true.
+const ALL: u64 = u64::MAX;
+
+/// The words whose rows below `2^vars` are true, for each number of variables.
+const ONES: [[u64; 16]; 11] = [
+    [0x1, 0, 0, 0, 0, 0, 0, 0, 0, 0, 0, 0, 0, 0, 0, 0],
+    [0x3, 0, 0, 0, 0, 0, 0, 0, 0, 0, 0, 0, 0, 0, 0, 0],
+    [0xf, 0, 0, 0, 0, 0, 0, 0, 0, 0, 0, 0, 0, 0, 0, 0],
+    [0xff, 0, 0, 0, 0, 0, 0, 0, 0, 0, 0, 0, 0, 0, 0, 0],
+    [0xffff, 0, 0, 0, 0, 0, 0, 0, 0, 0, 0, 0, 0, 0, 0, 0],
+    [0xffffffff, 0, 0, 0, 0, 0, 0, 0, 0, 0, 0, 0, 0, 0, 0, 0],
+    [ALL, 0, 0, 0, 0, 0, 0, 0, 0, 0, 0, 0, 0, 0, 0, 0],
+    [ALL, ALL, 0, 0, 0, 0, 0, 0, 0, 0, 0, 0, 0, 0, 0, 0],
+    [ALL, ALL, ALL, ALL, 0, 0, 0, 0, 0, 0, 0, 0, 0, 0, 0, 0],
+    [
+        ALL, ALL, ALL, ALL, ALL, ALL, ALL, ALL, 0, 0, 0, 0, 0, 0, 0, 0,
+    ],
+    [
+        ALL, ALL, ALL, ALL, ALL, ALL, ALL, ALL, ALL, ALL, ALL, ALL, ALL, ALL, ALL, ALL,
+    ],
+];
+
+/// The words whose row `r` is bit `i` of `r`, for each `i`.
+const VARIABLES: [[u64; 16]; 10] = [
+    [0xaaaaaaaaaaaaaaaa; 16],
+    [0xcccccccccccccccc; 16],
+    [0xf0f0f0f0f0f0f0f0; 16],
+    [0xff00ff00ff00ff00; 16],
+    [0xffff0000ffff0000; 16],
+    [0xffffffff00000000; 16],
+    [
+        0, ALL, 0, ALL, 0, ALL, 0, ALL, 0, ALL, 0, ALL, 0, ALL, 0, ALL,
+    ],
+    [
+        0, 0, ALL, ALL, 0, 0, ALL, ALL, 0, 0, ALL, ALL, 0, 0, ALL, ALL,
+    ],
+    [
+        0, 0, 0, 0, ALL, ALL, ALL, ALL, 0, 0, 0, 0, ALL, ALL, ALL, ALL,
+    ],
+    [
+        0, 0, 0, 0, 0, 0, 0, 0, ALL, ALL, ALL, ALL, ALL, ALL, ALL, ALL,
+    ],
+];
+
+/// The word whose row `r` is true where bit `i` of `r` is 0, for each `i`.
+const LOW: [u64; 6] = [
+    0x5555555555555555,
+    0x3333333333333333,
+    0x0f0f0f0f0f0f0f0f,
+    0x00ff00ff00ff00ff,
+    0x0000ffff0000ffff,
+    0x00000000ffffffff,
+];
+
+/// The words whose rows below `2^vars` are true, and no others.
+pub(crate) fn ones(vars: u8) -> [u64; 16]
+    requires { vars ≤ 10 }
+    ensures { (r : ℕ) → word_bit result r ≡ nat_lt r (2 ^ vars) }
+{
+    ONES[vars as usize]
+}
+
+/// The words whose row `r` is bit `index` of `r`.
+pub(crate) fn variable_words(index: u8) -> [u64; 16]
+    requires { index < 10 }
+    ensures { (r : ℕ) → r < 1024 → word_bit result r ≡ is_set r index }
+{
+    VARIABLES[index as usize]
+}
+
+/// The word whose row `r` is true where bit `index` of `r` is 0.
+pub(crate) fn low_rows(index: u8) -> u64
+    requires { index < 6 }
+    ensures { (r : ℕ) → r < 64 → is_set result r ≡ not (is_set r index) }
+{
+    LOW[index as usize]
+}

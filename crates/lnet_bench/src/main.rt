@@ -1,0 +1,18 @@
+//! Times calls of the library: `lnet_bench CALLS` makes each call so many times, and prints the nanoseconds of each.
+#![tactic(auto)]
+
+mod tables;
+
+use std::{env, io};
+
+fn main(rt: HostRuntime) -> io::Result<()> {
+    let words = env::args(&rt)?.collect::<Vec<String>>(rt.alloc())?;
+    let calls = match words.as_slice() {
+        [_, calls] => calls.as_str().parse::<u32>().ok(),
+        _ => None,
+    };
+    match calls {
+        Some(calls) => tables::time_all(&rt, calls),
+        None => println!(rt; "usage: lnet_bench CALLS"),
+    }
+}

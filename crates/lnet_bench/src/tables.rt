@@ -31,12 +31,16 @@ fn chain(leaves: u8) -> Recipe
 {
     let mut recipe = Recipe::new(leaves);
     for step in 0..20u8 {
-        let op = if step % 2 == 0 { StepOp::And } else { StepOp::Xor };
+        let op = if step % 2 == 0 {
+            StepOp::And
+        } else {
+            StepOp::Xor
+        };
         let place = u16::from(recipe.leaves()) + u16::from(recipe.len());
         let pushed = recipe.push(Step {
             op,
             a: Lit(2 * place + 1),
-            b: Lit(2 * (place - 1)),
+            b: Lit(2 * place.saturating_sub(1)),
             c: Lit(0),
         });
         if let Ok(root) = pushed {
@@ -83,7 +87,11 @@ fn plain_cofactors(calls: u32) {
 
 fn report(rt: &impl Print, name: &str, calls: u32, time: Duration) -> io::Result<()> {
     let nanos = time.as_nanos();
-    let each = if calls == 0 { 0 } else { nanos * 10 / u128::from(calls) };
+    let each = if calls == 0 {
+        0
+    } else {
+        nanos * 10 / u128::from(calls)
+    };
     println!(rt; "{name}: {}.{} ns", each / 10, each % 10)
 }
 

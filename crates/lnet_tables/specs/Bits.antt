@@ -1,4 +1,5 @@
--- Tables of bits: the rows of a function of `vars` variables.
+-- Truth tables: the values of a boolean function of `vars` variables, one row for each assignment, where bit i of the
+-- row's number is variable i (Knuth, "The Art of Computer Programming", volume 4A, section 7.1.1).
 use Rattle.std.specs.Prelude.{ℕ, zero, suc, ◌-◌, ◌+◌, ◌*◌, ◌^◌, ◌%◌, Bool, true, false, not, cond, List, map, ◌==◌}
 use Rattle.std.specs.List.{range_with_len}
 use Rattle.std.specs.Int.{bit_at}
@@ -23,9 +24,11 @@ row t r = get_or t.bits r false
 unfoldable pub is_set : ℕ → ℕ → Bool
 is_set r i = bit_at r i == 1
 
+-- exactly one of two
 abbrev pub bit_xor2 : Bool → Bool → Bool
 bit_xor2 a b = cond a (not b) b
 
+-- a truth value as a number
 abbrev pub bit_of : Bool → ℕ
 bit_of b = cond b 1 0
 
@@ -33,18 +36,23 @@ bit_of b = cond b 1 0
 abbrev pub by_rows : ℕ → (ℕ → Bool) → Rows
 by_rows n f = record { vars = n; bits = tabulate f (2 ^ n) }
 
+-- the function with one value at every row
 abbrev pub constant_rows : ℕ → Bool → Rows
 constant_rows n value = by_rows n (λ r. value)
 
+-- the function that is variable `index`
 abbrev pub variable_rows : ℕ → ℕ → Rows
 variable_rows n index = by_rows n (λ r. is_set r index)
 
+-- the complement of a function
 abbrev pub not_rows : Rows → Rows
 not_rows a = by_rows a.vars (λ r. not (row a r))
 
+-- both of two functions
 abbrev pub and_rows : Rows → Rows → Rows
 and_rows a b = by_rows a.vars (λ r. row a r && row b r)
 
+-- exactly one of two functions
 abbrev pub xor_rows : Rows → Rows → Rows
 xor_rows a b = by_rows a.vars (λ r. bit_xor2 (row a r) (row b r))
 
@@ -56,6 +64,7 @@ with_bit r i v = (r - bit_at r i * 2 ^ i) + bit_of v * 2 ^ i
 unfoldable pub swapped : ℕ → ℕ → ℕ → ℕ
 swapped r i j = with_bit (with_bit r i (is_set r j)) j (is_set r i)
 
+-- the function with variable i set to v
 abbrev pub cofactor_rows : Rows → ℕ → Bool → Rows
 cofactor_rows a i v = by_rows a.vars (λ r. row a (with_bit r i v))
 
@@ -68,9 +77,11 @@ number_by f (suc n) = bit_of (f 0) + 2 * number_by (λ i. f (i + 1)) n
 abbrev pub moved : ℕ → List ℕ → ℕ → ℕ
 moved r order n = number_by (λ i. is_set r (get_or order i 0)) n
 
+-- the function g(x) = f(y) with y_i = x_order[i]
 abbrev pub permute_rows : Rows → List ℕ → Rows
 permute_rows a order = by_rows a.vars (λ r. row a (moved r order a.vars))
 
+-- the function with unused variables added above, n in all
 abbrev pub expand_rows : Rows → ℕ → Rows
 expand_rows a n = by_rows n (λ r. row a (r % 2 ^ a.vars))
 

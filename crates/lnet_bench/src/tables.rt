@@ -3,7 +3,6 @@
 ghost use Rattle.std.specs.Prelude.{◌≡◌, ◌<◌, ◌≤◌};
 
 use lnet_tables::{Lit, Recipe, Step, StepOp, Table};
-use std::hint::black_box;
 use std::io;
 use std::rt::Clock;
 use std::time::{Duration, Instant};
@@ -50,56 +49,87 @@ fn chain(leaves: u8) -> Recipe
     recipe
 }
 
-fn cofactors(table: Table, calls: u32) {
+/// Cofactors one after the other; what comes out is used, so that no call is left out.
+fn cofactors(table: Table, calls: u32) -> u64 {
+    let mut table = table;
+    let mut sum = 0;
     for call in 0..calls {
         if table.vars() > 0 {
             let index = (call % u32::from(table.vars())) as u8;
-            black_box(black_box(table).cofactor(index, call % 2 == 1));
+            let half = table.cofactor(index, call % 2 == 1);
+            sum ^= half.words()[0].rotate_left(call % 64);
+            table = half.not();
         }
     }
+    sum
 }
 
-fn supports(table: Table, calls: u32) {
-    for _ in 0..calls {
-        black_box(black_box(table).support());
+/// Supports of a table and of its complement in turn.
+fn supports(table: Table, calls: u32) -> u64 {
+    let mut table = table;
+    let mut sum = 0;
+    for call in 0..calls {
+        sum ^= u64::from(table.support()).rotate_left(call % 64);
+        table = table.not();
     }
+    sum
 }
 
-fn conjunctions(table: Table, calls: u32) {
+fn conjunctions(table: Table, other: Table, calls: u32) -> u64
+    requires { table.vars ≡ other.vars }
+{
+    let mut table = table;
     for _ in 0..calls {
-        black_box(black_box(table).and(table));
+        table = table.and(other).not();
     }
+    table.words()[0]
 }
 
-fn simulations(recipe: &Recipe, calls: u32) {
-    for _ in 0..calls {
-        black_box(black_box(recipe).simulate());
+fn complements(table: Table, calls: u32) -> u64 {
+    let mut table = table;
+    let mut sum = 0;
+    for call in 0..calls {
+        sum ^= table.words()[0].rotate_left(call % 64);
+        table = table.not();
     }
+    sum
 }
 
-/// The cofactor of one word by its first variable, in plain arithmetic.
-fn plain_cofactors(calls: u32) {
-    for _ in 0..calls {
-        let word = black_box(SEED) & 0x5555_5555_5555_5555;
-        black_box(word | word << 1);
+fn simulations(recipe: &Recipe, calls: u32) -> u64 {
+    let mut sum = 0;
+    for call in 0..calls {
+        sum ^= recipe.simulate().words()[0].rotate_left(call % 64);
     }
+    sum
 }
 
-fn report(rt: &impl Print, name: &str, calls: u32, time: Duration) -> io::Result<()> {
-    let nanos = time.as_nanos();
-    let each = if calls == 0 {
+/// Cofactors of one word by its first variable, in plain arithmetic, complemented in turn.
+fn plain_cofactors(calls: u32) -> u64 {
+    let mut word = SEED;
+    let mut sum = 0;
+    for call in 0..calls {
+        let low = word & 0x5555_5555_5555_5555;
+        let half = low | low << 1;
+        sum ^= half.rotate_left(call % 64);
+        word = !(half ^ u64::from(call));
+    }
+    sum
+}
+
+fn report(rt: &impl Print, name: &str, calls: u32, time: Duration, sum: u64) -> io::Result<()> {
+    let tenths = if calls == 0 {
         0
     } else {
-        nanos * 10 / u128::from(calls)
+        time.as_nanos() * 10 / u128::from(calls)
     };
-    println!(rt; "{name}: {}.{} ns", each / 10, each % 10)
+    println!(rt; "{name}: {}.{} ns, sum {sum:x}", tenths / 10, tenths % 10)
 }
 
 /// Times each call, and prints a line for it.
 pub fn time_all<R: Print + Clock>(rt: &R, calls: u32) -> io::Result<()> {
     let start = Instant::now(rt)?;
-    plain_cofactors(calls);
-    report(rt, "plain word, cofactor", calls, start.elapsed(rt)?)?;
+    let sum = plain_cofactors(calls);
+    report(rt, "plain word, cofactor", calls, start.elapsed(rt)?, sum)?;
     time_tables(rt, 4, calls)?;
     time_tables(rt, 6, calls)?;
     time_tables(rt, 10, calls)?;
@@ -113,14 +143,17 @@ fn time_tables<R: Print + Clock>(rt: &R, vars: u8, calls: u32) -> io::Result<()>
     let table = sample(vars);
     println!(rt; "tables of {vars} variables")?;
     let start = Instant::now(rt)?;
-    conjunctions(table, calls);
-    report(rt, "  and", calls, start.elapsed(rt)?)?;
+    let sum = complements(table, calls);
+    report(rt, "  not", calls, start.elapsed(rt)?, sum)?;
     let start = Instant::now(rt)?;
-    cofactors(table, calls);
-    report(rt, "  cofactor", calls, start.elapsed(rt)?)?;
+    let sum = conjunctions(table, table, calls);
+    report(rt, "  and, not", calls, start.elapsed(rt)?, sum)?;
     let start = Instant::now(rt)?;
-    supports(table, calls);
-    report(rt, "  support", calls, start.elapsed(rt)?)
+    let sum = cofactors(table, calls);
+    report(rt, "  cofactor, not", calls, start.elapsed(rt)?, sum)?;
+    let start = Instant::now(rt)?;
+    let sum = supports(table, calls);
+    report(rt, "  support, not", calls, start.elapsed(rt)?, sum)
 }
 
 fn time_recipe<R: Print + Clock>(rt: &R, leaves: u8, calls: u32) -> io::Result<()>
@@ -129,8 +162,8 @@ fn time_recipe<R: Print + Clock>(rt: &R, leaves: u8, calls: u32) -> io::Result<(
 {
     let recipe = chain(leaves);
     let start = Instant::now(rt)?;
-    simulations(&recipe, calls);
+    let sum = simulations(&recipe, calls);
     let time = start.elapsed(rt)?;
     println!(rt; "recipe of {} steps over {leaves} leaves", recipe.len())?;
-    report(rt, "  simulate", calls, time)
+    report(rt, "  simulate", calls, time, sum)
 }

@@ -6,3 +6,6 @@ pub mod XorForms
 pub mod XorLaws
 pub mod MajForms
 pub mod MajLaws
+pub mod StepPlanMeans
+pub mod RemadeMeans
+pub mod PlanLaws

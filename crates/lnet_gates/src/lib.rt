@@ -5,6 +5,7 @@ mod forming;
 mod gate;
 mod laws;
 mod normal;
+mod planning;
 mod signal;
 #[cfg(test)]
 mod tests;
@@ -16,4 +17,5 @@ pub use laws::{
     xor_forms_are_lawful,
 };
 pub use normal::{Key, Normal};
+pub use planning::Plan;
 pub use signal::{Node, Signal};

@@ -9,3 +9,5 @@ pub mod MajLaws
 pub mod StepPlanMeans
 pub mod RemadeMeans
 pub mod PlanLaws
+pub mod LaidInTurn
+pub mod Underway

@@ -83,7 +83,7 @@ remade_holds kind (s ∷ ss) t lits vs h =
 abbrev pub begun : ℕ → RecipeValue
 begun n = record { leaves = n; steps = []; root = no_lit }
 
-leaf_lit : (n p : ℕ) → p < n + 1 → get_or (leaf_lits n) p no_lit ≡ plain p
+pub leaf_lit : (n p : ℕ) → p < n + 1 → get_or (leaf_lits n) p no_lit ≡ plain p
 leaf_lit n p lt = get_or-map-range_with_len plain 0 (n + 1) p p no_lit lt (omega arith)
 
 leaf_value : (n r i : ℕ) → i < n → get_or (leaf_values n r) (suc i) false ≡ is_set r i
@@ -114,6 +114,9 @@ leaves_hold n = record { at = at; long = λ r. leaf_length n r ∙ sym (length-m
 remade_leaves : (kind : Kind) (ss : List Step) (t : RecipeValue) (lits : List Lit) → (remade kind ss t lits).recipe.leaves ≡ t.leaves
 remade_leaves kind [] t lits = refl
 remade_leaves kind (s ∷ ss) t lits = remade_leaves kind ss _ _
+
+pub native_leaves : (kind : Kind) (r : RecipeValue) → (native_recipe kind r).leaves ≡ r.leaves
+native_leaves kind r = remade_leaves kind r.steps (begun r.leaves) (leaf_lits r.leaves)
 
 -- replacing steps by their plans keeps the function
 pub native_sim : (kind : Kind) (r : RecipeValue) → sim (native_recipe kind r) ≡ sim r

@@ -5,3 +5,4 @@ pub mod NormalLaws
 pub mod StepPlans
 pub mod Remade
 pub mod Plans
+pub mod Laying

@@ -73,3 +73,13 @@ op_rows op n = by_rows n (λ r. operate op (operands_at n r))
 -- steps that the gates of the kind have
 abbrev pub AllNative : Kind → List Step → Type 0
 AllNative kind ss = All (λ s. IsTrue (is_native kind (op_of s.op))) ss
+
+-- the plan is native
+abbrev pub IsPlanNative : Plan → Type 0
+IsPlanNative Native = Unit
+IsPlanNative (Steps r) = ⊥
+
+-- what holds of the recipe, if the plan is one
+abbrev pub IfSteps : Plan → (RecipeValue → Type 0) → Type 0
+IfSteps Native P = Unit
+IfSteps (Steps r) P = P r

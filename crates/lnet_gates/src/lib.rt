@@ -3,6 +3,7 @@
 
 mod forming;
 mod gate;
+mod laying;
 mod laws;
 mod normal;
 mod planning;

@@ -280,7 +280,7 @@ most_small (suc (suc (suc (suc (suc (suc zero)))))) le = lit≤ tt
 most_small (suc (suc (suc (suc (suc (suc (suc zero))))))) le = lit≤ tt
 most_small (suc (suc (suc (suc (suc (suc (suc (suc n)))))))) le = absurd (omega arith)
 
-pub most_native : (n : ℕ) → n ≤ 6 → most 3 n ≤ 128
+pub most_native : (n : ℕ) → n ≤ 6 → most 3 n ≤ 93
 most_native zero le = lit≤ tt
 most_native (suc zero) le = lit≤ tt
 most_native (suc (suc zero)) le = lit≤ tt

@@ -1,5 +1,5 @@
 -- Plans that are pushed one after another.
-use Rattle.std.proofs.Common.{◌≡◌, ℕ, ◌+◌, ◌<◌, List, ◌++◌, length, refl, sym, ◌∙◌, ap, subst, arith, append_assoc, length-append}
+use Rattle.std.proofs.Common.{◌≡◌, ℕ, ◌+◌, List, ◌++◌, length, refl, ◌∙◌, ap, subst, arith, append_assoc, length-append}
 use Rattle.lnet_tables.specs.declared.step.Lit.{Lit}
 use Rattle.lnet_tables.specs.declared.step.Step.{Step}
 use Rattle.lnet_tables.specs.Recipes.{RecipeValue, place, next_place}

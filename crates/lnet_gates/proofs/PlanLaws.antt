@@ -1,17 +1,16 @@
 -- The laws of plans: what an operation's recipe computes, and that its native steps fit.
-use Rattle.std.proofs.Common.{◌≡◌, ℕ, zero, suc, ◌+◌, ◌*◌, ◌^◌, ◌/◌, ◌%◌, ◌<◌, ◌≤◌, ◌==◌, Bool, true, false, cond, List, [], ◌∷◌, ◌++◌, map, length, refl, sym, ◌∙◌, ap, arith, lit≤, add-zero, inl, inr}
+use Rattle.std.proofs.Common.{◌≡◌, ℕ, zero, suc, ◌+◌, ◌*◌, ◌^◌, ◌<◌, ◌≤◌, Bool, true, false, [], ◌∷◌, map, length, refl, sym, ◌∙◌, ap, arith, lit≤, add-zero, inl, inr}
 use Rattle.std.proofs.lemmas.Bool.{cases_lt}
 use Rattle.std.proofs.lemmas.Nat.Bits.{same_from_bits, bit_at_above}
-use Rattle.std.specs.Prelude.{◌&&◌, ◌||◌, eqb}
+use Rattle.std.specs.Prelude.{eqb}
 use Rattle.std.specs.List.{range_with_len}
 use Rattle.std.specs.Int.{bit_at}
-use Rattle.lnet_tables.specs.Bits.{Rows, by_rows, is_set, bit_of, number_by}
+use Rattle.lnet_tables.specs.Bits.{is_set, bit_of, number_by}
 use Rattle.lnet_tables.specs.Inverse.{bit_inside, bit_outside, bit_of_set}
 use Rattle.lnet_tables.specs.declared.step.StepOp.{StepOp}
 use Rattle.lnet_tables.specs.declared.step.StepOp.TheVariants.{And as AndStep, Xor as XorStep, Maj as MajStep}
 use Rattle.lnet_tables.specs.Recipes.{RecipeValue, sim, leaf_values, apply}
 use Rattle.lnet_tables.specs.Weights.{weight}
-use Rattle.lnet_tables.specs.Shannon.{shannon_of}
 use Rattle.lnet_tables.proofs.Ops.{same_rows}
 use Rattle.lnet_tables.proofs.Rowwise.{rows_long}
 use Rattle.lnet_tables.proofs.Below.{below_all}
@@ -21,11 +20,11 @@ use Rattle.lnet_gates.specs.declared.gate.Kind.{Kind}
 use Rattle.lnet_gates.specs.declared.gate.Kind.TheVariants.{Aig, Xag, Mig, Klut}
 use Rattle.lnet_gates.specs.declared.gate.Op.{Op}
 use Rattle.lnet_gates.specs.declared.gate.Op.TheVariants.{And, Xor, Maj, Lut}
-use Rattle.lnet_gates.specs.Gates.{operate, row_of, maj_of}
+use Rattle.lnet_gates.specs.Gates.{row_of, maj_of}
 use Rattle.lnet_gates.specs.StepPlans.{cost}
-use Rattle.lnet_gates.specs.Remade.{native_recipe}
+use Rattle.lnet_gates.specs.Remade.{leaf_lits, native_recipe}
 use Rattle.lnet_gates.specs.Plans.{Takes, lut_rows, recipe_of, operands_at, op_rows}
-use Rattle.lnet_gates.proofs.RemadeMeans.{native_sim, native_leaves}
+use Rattle.lnet_gates.proofs.RemadeMeans.{begun, native_sim, native_leaves, remade_long}
 
 -- ---- one step
 maj_is : (a b c : Bool) → apply MajStep a b c ≡ maj_of (a ∷ b ∷ c ∷ [])
@@ -102,7 +101,7 @@ costs Xag = record { ands = lit≤ tt; xors = lit≤ tt; some = lit≤ tt; few =
 costs Mig = record { ands = lit≤ tt; xors = lit≤ tt; some = lit≤ tt; few = lit≤ tt }
 costs Klut = record { ands = lit≤ tt; xors = lit≤ tt; some = lit≤ tt; few = lit≤ tt }
 
-few_steps : (kind : Kind) (op : StepOp) → cost kind op + 0 ≤ 124
+few_steps : (kind : Kind) (op : StepOp) → cost kind op + 0 ≤ 93
 few_steps Aig AndStep = lit≤ tt
 few_steps Aig XorStep = lit≤ tt
 few_steps Aig MajStep = lit≤ tt
@@ -116,10 +115,15 @@ few_steps Klut AndStep = lit≤ tt
 few_steps Klut XorStep = lit≤ tt
 few_steps Klut MajStep = lit≤ tt
 
--- the native steps of an operation's recipe fit, with room for those of one step more
-pub plan_fits : (kind : Kind) (op : Op) (n : ℕ) → Takes op n → weight (cost kind) (recipe_of op n).steps ≤ 124
+-- how many native steps an operation's recipe has at most
+pub plan_fits : (kind : Kind) (op : Op) (n : ℕ) → Takes op n → weight (cost kind) (recipe_of op n).steps ≤ 93
 plan_fits kind And n h = few_steps kind AndStep
 plan_fits kind Xor n h = few_steps kind XorStep
 plan_fits kind Maj n h = few_steps kind MajStep
 plan_fits kind (Lut t) n h =
     omega (arith, expansion_cheap (cost kind) 3 (costs kind) n (n + 1) (lut_rows n t) (omega arith) (below_all (lut_rows n t)), most_native n h)
+
+pub plan_short : (kind : Kind) (op : Op) (n : ℕ) → Takes op n → length (native_recipe kind (recipe_of op n)).steps ≤ 93
+plan_short kind op n h =
+    let r : RecipeValue = recipe_of op n in
+    rw (remade_long kind r.steps (begun r.leaves) (leaf_lits r.leaves)) (omega (arith, plan_fits kind op n h))

@@ -1,18 +1,17 @@
 -- A recipe made of the steps of a kind has the function of the recipe that it is made of, steps that the gates of the kind
 -- have, and as many steps as the weights tell.
-use Rattle.std.proofs.Common.{◌≡◌, ℕ, zero, suc, ◌+◌, ◌*◌, ◌^◌, ◌<◌, ◌≤◌, ◌%◌, ◌==◌, Bool, true, false, cond, not, List, [], ◌∷◌, ◌++◌, map, length, get_or, refl, sym, ◌∙◌, ap, subst, arith, rules, length-append, inl, inr}
-use Rattle.std.specs.Prelude.{All, IsTrue}
-use Rattle.std.specs.List.{range_with_len}
+use Rattle.std.proofs.Common.{◌≡◌, ℕ, zero, suc, ◌+◌, ◌<◌, ◌≤◌, ◌%◌, ◌==◌, Bool, true, false, cond, List, [], ◌∷◌, ◌++◌, length, get_or, refl, sym, ◌∙◌, ap, subst, arith, rules, length-append, inl, inr}
+use Rattle.std.specs.Prelude.{IsTrue}
 use Rattle.std.proofs.lemmas.Bool.{cases_lt, cases_eq}
 use Rattle.std.proofs.lemmas.List.{get_or_append_left, get_or_push, get_or_past, length_push}
 use Rattle.std.proofs.lemmas.List.Elements.{All-append}
 use Rattle.std.proofs.lemmas.List.FromFn.{length-map-range_with_len, get_or-map-range_with_len}
-use Rattle.lnet_tables.specs.Bits.{Rows, by_rows, bit_xor2, is_set}
+use Rattle.lnet_tables.specs.Bits.{by_rows, bit_xor2, is_set}
 use Rattle.lnet_tables.specs.declared.step.Lit.{Lit}
 use Rattle.lnet_tables.specs.declared.step.Step.{Step}
 use Rattle.lnet_tables.specs.declared.step.StepOp.{StepOp}
 use Rattle.lnet_tables.specs.declared.step.StepOp.TheVariants.{And, Xor, Maj}
-use Rattle.lnet_tables.specs.Recipes.{RecipeValue, place, next_place, apply, run, lit_value, step_value, leaf_values, root_value, sim}
+use Rattle.lnet_tables.specs.Recipes.{RecipeValue, place, next_place, run, lit_value, step_value, leaf_values, root_value, sim}
 use Rattle.lnet_tables.specs.Means.{Means}
 use Rattle.lnet_tables.specs.Weights.{weight}
 use Rattle.lnet_tables.specs.Shannon.{Laid, plain, other}

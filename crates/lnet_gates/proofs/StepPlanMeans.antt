@@ -1,5 +1,5 @@
 -- What the plans of steps compute, how many steps they have, and that the gates have them.
-use Rattle.std.proofs.Common.{◌≡◌, ℕ, ◌+◌, Bool, true, false, not, List, [], ◌∷◌, ◌++◌, length, refl, sym, subst, arith, append_assoc, length-append}
+use Rattle.std.proofs.Common.{◌≡◌, ℕ, ◌+◌, Bool, true, false, not, List, [], ◌∷◌, length, refl, sym, subst, arith, append_assoc, length-append}
 use Rattle.std.specs.Prelude.{◌&&◌}
 use Rattle.lnet_tables.specs.Bits.{bit_xor2}
 use Rattle.lnet_tables.specs.declared.step.Lit.{Lit}
@@ -10,7 +10,7 @@ use Rattle.lnet_tables.specs.Recipes.{RecipeValue, next_place, apply}
 use Rattle.lnet_tables.specs.Means.{Means}
 use Rattle.lnet_tables.specs.Shannon.{Laid, after, plain, complemented, other}
 use Rattle.lnet_tables.proofs.ShannonSteps.{other_plain}
-use Rattle.lnet_tables.proofs.ShannonMeans.{grown, and_means, xor_means, grown_means}
+use Rattle.lnet_tables.proofs.ShannonMeans.{grown, and_means, grown_means}
 use Rattle.lnet_tables.proofs.Growing.{means_push, means_other, means_constant, means_as}
 use Rattle.lnet_gates.specs.declared.gate.Kind.{Kind}
 use Rattle.lnet_gates.specs.declared.gate.Kind.TheVariants.{Aig, Xag, Mig, Klut}

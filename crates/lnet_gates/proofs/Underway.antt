@@ -1,5 +1,5 @@
 -- A recipe that is made of the plans of another's steps, on the way.
-use Rattle.std.proofs.Common.{◌≡◌, ℕ, suc, ◌+◌, ◌*◌, ◌/◌, ◌%◌, ◌^◌, ◌<◌, ◌≤◌, ◌==◌, Bool, true, false, cond, List, [], ◌∷◌, ◌++◌, length, drop, get_or, refl, sym, ◌∙◌, ap, subst, arith, lit<, add-one, drop-cons, length-append, length-drop, inl, inr, Some}
+use Rattle.std.proofs.Common.{◌≡◌, ℕ, suc, ◌+◌, ◌%◌, ◌^◌, ◌<◌, ◌≤◌, ◌==◌, Bool, true, false, cond, List, [], ◌∷◌, ◌++◌, length, drop, get_or, refl, sym, ◌∙◌, ap, arith, lit<, add-one, drop-cons, length-append, length-drop, inl, inr, Some}
 use Rattle.std.specs.Prelude.{slice_get}
 use Rattle.std.proofs.lemmas.Bool.{cases_lt}
 use Rattle.std.proofs.lemmas.List.{get_or_append_left, get_or_push, length_push, nil_from_length}
@@ -35,9 +35,9 @@ renamed_inside n lits l h lt = rw (flipped_place (l.0 % 2 == 1) (get_or lits (pl
 inside_more : (m n : ℕ) (lits : List Lit) (l : Lit) → AllInside m lits → m ≤ n → place l < n → AllInside n (lits ++ l ∷ [])
 inside_more m n lits l h le lt = record {
   at = λ p below. elim (cases_lt p (length lits)) [
-      | inl in_lits ↦ rw (get_or_append_left lits (l ∷ []) no_lit p in_lits) (omega (arith, h.at p in_lits))
-      | inr ge ↦ rw (get_or_push lits l no_lit p (omega (arith, length_push lits l))) lt
-    ];
+    | inl in_lits ↦ rw (get_or_append_left lits (l ∷ []) no_lit p in_lits) (omega (arith, h.at p in_lits))
+    | inr ge ↦ rw (get_or_push lits l no_lit p (omega (arith, length_push lits l))) lt
+  ];
 }
 
 leaves_inside : (n : ℕ) → AllInside (next_place (begun n)) (leaf_lits n)

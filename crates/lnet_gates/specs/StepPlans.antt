@@ -1,6 +1,6 @@
 -- And, Xor and majority of the literals of a recipe, laid by the operations that the gates of a network have. Source: the
 -- textbook identities of And, Xor and majority.
-use Rattle.std.specs.Prelude.{ℕ, ◌+◌, List, [], ◌∷◌, length}
+use Rattle.std.specs.Prelude.{ℕ, ◌+◌, [], ◌∷◌, length}
 use Rattle.lnet_tables.specs.Shannon.{Laid, plain, complemented, other, after}
 use Rattle.lnet_tables.specs.declared.step.Lit.{Lit}
 use Rattle.lnet_tables.specs.declared.step.StepOp.{StepOp}

@@ -3,9 +3,11 @@
 
 mod forming;
 mod gate;
-mod laying;
 mod laws;
+mod laying;
 mod normal;
+#[cfg(test)]
+mod plan_tests;
 mod planning;
 mod signal;
 #[cfg(test)]

@@ -59,6 +59,7 @@ impl Kind {
         ensures plan { result ≡ plans.plan_of self op.now arity }
         ensures native { plans.IsPlanNative result ↔ IsTrue (plans.is_native self op.now) }
         ensures steps { plans.IfSteps result (λ r. plans.AllNative self r.steps) }
+        ensures few { plans.IfSteps result (λ r. length r.steps ≤ 93) }
         ensures leaves { plans.IfSteps result (λ r. r.leaves ≡ arity) }
         ensures function { plans.IfSteps result (λ r. sim r ≡ plans.op_rows op.now arity) }
     {

@@ -1,10 +1,10 @@
-use Rattle.std.proofs.Common.{◌≡◌, ◌≤◌, ◌+◌, ◌<◌, List, length, sym, ◌∙◌, ap, subst, arith, ◌++◌, ◌∷◌, []}
+use Rattle.std.proofs.Common.{List, sym, ◌∙◌, ap, subst, arith}
 use Rattle.lnet_tables.specs.declared.step.Lit.{Lit}
-use Rattle.lnet_tables.specs.Recipes.{place, next_place}
+use Rattle.lnet_tables.specs.Recipes.{next_place}
 use Rattle.lnet_gates.specs.Remade.{renamed}
 use Rattle.lnet_gates.specs.StepPlans.{step_plan}
 use Rattle.lnet_gates.specs.Laying.{HasLaid}
-use Rattle.lnet_gates.proofs.Underway.{Underway, underway_begun, underway_more, underway_done, renamed_inside}
+use Rattle.lnet_gates.proofs.Underway.{underway_begun, underway_more, underway_done, renamed_inside}
 use Rattle.lnet_gates.proofs.planning.in_kind.Goals as goal
 
 pub loop-i-init : goal.loop-i-init

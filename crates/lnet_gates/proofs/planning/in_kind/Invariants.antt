@@ -1,4 +1,3 @@
-use Rattle.std.proofs.Common.{◌≤◌}
 use Rattle.lnet_gates.proofs.Underway.{Underway}
 use Rattle.lnet_gates.proofs.planning.in_kind.Given as goal
 

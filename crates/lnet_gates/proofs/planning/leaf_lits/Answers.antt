@@ -1,4 +1,4 @@
-use Rattle.std.proofs.Common.{rules, refl, ap, length, ◌≡◌, ◌+◌, map, arith}
+use Rattle.std.proofs.Common.{rules, refl, ap, length, ◌≡◌, map, arith}
 use Rattle.std.specs.List.{range_with_len}
 use Rattle.std.proofs.lemmas.List.FromFn.{map-range_with_len_more, length-map-range_with_len}
 use Rattle.lnet_tables.specs.Shannon.{plain}

@@ -1,0 +1,62 @@
+//! Plans with answers worked out by hand.
+
+ghost use Rattle.std.specs.Prelude.{◌≡◌};
+ghost use Rattle.lnet_gates.specs.Plans.{Takes};
+
+use crate::{Kind, Op, Plan};
+use lnet_tables::{Lit, Step, StepOp};
+use std::process::Abort;
+
+fn step(op: StepOp, a: u16, b: u16, c: u16) -> Step
+    ensures { result ≡ record { op = op; a = record { 0 = a }; b = record { 0 = b }; c = record { 0 = c } } }
+{
+    Step {
+        op,
+        a: Lit(a),
+        b: Lit(b),
+        c: Lit(c),
+    }
+}
+
+/// Asserts that the plan of the operation has just these steps and this root.
+fn lays(rt: &impl Abort, kind: Kind, op: Op, arity: u8, steps: &[Step], root: u16)
+    requires { Takes op arity }
+{
+    let Plan::Steps(recipe) = kind.plan(&op, arity) else {
+        assert!(rt; false, "native");
+        return;
+    };
+    assert_eq!(rt; recipe.len() as usize, steps.len());
+    for i in 0..recipe.len() {
+        assert_eq!(rt; recipe.step(i), steps[i as usize]);
+    }
+    assert_eq!(rt; recipe.root(), Lit(root));
+}
+
+#[test]
+fn plans_by_hand(rt: HostRuntime) {
+    let and = step(StepOp::And, 2, 4, 0);
+    let nor = step(StepOp::And, 3, 5, 0);
+    let third = step(StepOp::And, 6, 11, 0);
+    lays(&rt, Kind::Mig, Op::And, 2, &[step(StepOp::Maj, 0, 2, 4)], 6);
+    lays(
+        &rt,
+        Kind::Xag,
+        Op::Maj,
+        3,
+        &[and, nor, third, step(StepOp::And, 9, 13, 0)],
+        15,
+    );
+    let left = step(StepOp::And, 4, 3, 0);
+    let right = step(StepOp::And, 5, 2, 0);
+    lays(
+        &rt,
+        Kind::Aig,
+        Op::Lut(0x6),
+        2,
+        &[left, right, step(StepOp::And, 7, 9, 0)],
+        11,
+    );
+    assert!(rt; Kind::Klut.has(&Op::Lut(0x6)));
+    assert!(rt; matches!(Kind::Mig.plan(&Op::Maj, 3), Plan::Native));
+}

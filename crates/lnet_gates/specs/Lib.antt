@@ -6,3 +6,5 @@ pub mod StepPlans
 pub mod Remade
 pub mod Plans
 pub mod Laying
+pub mod Natives
+pub mod Lawful

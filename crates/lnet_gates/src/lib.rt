@@ -3,6 +3,7 @@
 
 mod forming;
 mod gate;
+mod kinds;
 mod laws;
 mod laying;
 mod normal;
@@ -15,6 +16,7 @@ mod tests;
 
 pub use forming::{normal_and, normal_maj, normal_xor};
 pub use gate::{Gate, Kind, Op};
+pub use kinds::{AigGates, Gates, MigGates, XagGates};
 pub use laws::{
     and_forms_are_lawful, and_xor_rows, maj_forms_are_lawful, majority_rows, table_rows,
     xor_forms_are_lawful,

@@ -1,6 +1,6 @@
 -- Which gates a kind has, and the normal forms of And, Xor and Maj gates as one function. Source: the textbook's names of the
 -- networks.
-use Rattle.std.specs.Prelude.{◌≡◌, ℕ, ◌≤◌, Bool, true, List, length}
+use Rattle.std.specs.Prelude.{◌≡◌, true, List, length}
 use Rattle.lnet_gates.specs.declared.signal.Signal.{Signal}
 use Rattle.lnet_gates.specs.declared.gate.Kind.{Kind}
 use Rattle.lnet_gates.specs.declared.gate.Op.{Op}

@@ -1,9 +1,12 @@
 //! Plans with answers worked out by hand.
 
-ghost use Rattle.std.specs.Prelude.{◌≡◌};
+ghost use Rattle.std.specs.Prelude.{◌≡◌, true, false, [], ◌∷◌};
+ghost use Rattle.lnet_gates.specs.Operands.{constant};
 ghost use Rattle.lnet_gates.specs.Plans.{Takes};
+ghost use Rattle.lnet_gates.specs.Natives.{IsNativeGate};
 
-use crate::{Kind, Op, Plan};
+use crate::{AigGates, Gate, Gates, Kind, MigGates, Normal, Op, Plan, Signal, XagGates};
+use arrayvec::ArrayVec;
 use lnet_tables::{Lit, Step, StepOp};
 use std::process::Abort;
 
@@ -59,4 +62,35 @@ fn plans_by_hand(rt: HostRuntime) {
     );
     assert!(rt; Kind::Klut.has(&Op::Lut(0x6)));
     assert!(rt; matches!(Kind::Mig.plan(&Op::Maj, 3), Plan::Native));
+}
+
+/// The normal form of a gate and the kind's plan of its operation, through the kind as a type.
+fn formed<G: Gates>(gate: &Gate) -> (Normal, bool)
+    requires { IsNativeGate G.KIND gate.now }
+    ensures { result.0 ≡ G.form gate.now }
+{
+    (G::normal(gate), G::KIND.has(&gate.op))
+}
+
+fn with_true(op: Op) -> Gate
+    ensures { result ≡ record { op = op; phase = false; fanins = constant true ∷ constant false ∷ [] } }
+{
+    let mut fanins = ArrayVec::new();
+    fanins.push(Signal::constant(true));
+    fanins.push(Signal::constant(false));
+    Gate {
+        op,
+        phase: false,
+        fanins,
+    }
+}
+
+#[test]
+fn kinds_form_gates(rt: HostRuntime) {
+    let both = formed::<AigGates>(&with_true(Op::And));
+    assert!(rt; matches!(both.0, Normal::Is(signal) if signal == Signal::constant(false)));
+    let one = formed::<XagGates>(&with_true(Op::Xor));
+    assert!(rt; matches!(one.0, Normal::Is(signal) if signal == Signal::constant(true)));
+    assert!(rt; one.1);
+    assert!(rt; matches!(MigGates::plan(&Op::Maj, 3), Plan::Native));
 }

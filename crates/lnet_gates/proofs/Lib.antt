@@ -1,8 +1,5 @@
-pub mod OperandLemmas
-pub mod AndForms
-pub mod FormLaws
-pub mod AndLaws
-pub mod XorForms
-pub mod XorLaws
-pub mod MajForms
-pub mod MajLaws
+pub mod StepPlanMeans
+pub mod RemadeMeans
+pub mod PlanLaws
+pub mod LaidInTurn
+pub mod Underway

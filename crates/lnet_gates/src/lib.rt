@@ -3,17 +3,24 @@
 
 mod forming;
 mod gate;
+mod kinds;
 mod laws;
+mod laying;
 mod normal;
+#[cfg(test)]
+mod plan_tests;
+mod planning;
 mod signal;
 #[cfg(test)]
 mod tests;
 
 pub use forming::{normal_and, normal_maj, normal_xor};
 pub use gate::{Gate, Kind, Op};
+pub use kinds::{AigGates, Gates, MigGates, XagGates};
 pub use laws::{
     and_forms_are_lawful, and_xor_rows, maj_forms_are_lawful, majority_rows, table_rows,
     xor_forms_are_lawful,
 };
 pub use normal::{Key, Normal};
+pub use planning::Plan;
 pub use signal::{Node, Signal};

@@ -54,7 +54,7 @@ after_means s x y f m =
     subst (λ (ss : List Step). Means (record { leaves = s.leaves; steps = ss; root = s.root }) (y (next_place s + length x.steps) x.root).root f)
     (append_assoc s.steps x.steps (y (next_place s + length x.steps) x.root).steps) k
 
-grown_means : (s : RecipeValue) (x : Laid) (l : Lit) (f : ℕ → Bool) → Means s l f → Means (grown s x) l f
+pub grown_means : (s : RecipeValue) (x : Laid) (l : Lit) (f : ℕ → Bool) → Means s l f → Means (grown s x) l f
 grown_means s x l f m = means_kept s (grown s x) l f (record { leaves = refl; more = x.steps; steps = refl }) m
 
 -- ---- the cases

@@ -6,3 +6,4 @@ pub mod Recipes
 pub mod WholeTables
 pub mod Means
 pub mod Shannon
+pub mod Weights

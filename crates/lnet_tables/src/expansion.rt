@@ -91,7 +91,7 @@ fn lay(recipe: &mut Recipe, table: Table, count: u8) -> Result<Lit, RecipeFull>
             Ok(lit)
         }
         Case::Plain => Ok(leaf),
-        Case::Complement => Ok(complement(leaf)),
+        Case::Complement => Ok(leaf.complement()),
         Case::Neither => {
             let if_true = lay(recipe, high, variable)?;
             let if_false = lay(recipe, low, variable)?;
@@ -120,18 +120,6 @@ fn constant(value: bool) -> Lit
     ensures place { place result ≡ 0 }
 {
     if value { Lit(1) } else { Lit(0) }
-}
-
-/// The complement of a literal.
-fn complement(lit: Lit) -> Lit
-    ensures value { result ≡ other lit }
-    ensures place { place result ≡ place lit }
-{
-    if lit.0 % 2 == 0 {
-        Lit(lit.0 + 1)
-    } else {
-        Lit(lit.0 - 1)
-    }
 }
 
 /// Which case decides, given the two cofactors.
@@ -196,8 +184,8 @@ fn one_step(recipe: &mut Recipe, case: Case, leaf: Lit, rest: Lit) -> Result<Lit
 {
     match case {
         Case::HighTrue => or(recipe, leaf, rest),
-        Case::HighFalse => and(recipe, complement(leaf), rest),
-        Case::LowTrue => or(recipe, complement(leaf), rest),
+        Case::HighFalse => and(recipe, leaf.complement(), rest),
+        Case::LowTrue => or(recipe, leaf.complement(), rest),
         Case::LowFalse => and(recipe, leaf, rest),
         _ => xor(recipe, leaf, rest),
     }
@@ -214,7 +202,7 @@ fn choice(recipe: &mut Recipe, leaf: Lit, if_true: Lit, if_false: Lit) -> Result
     ensures inside { IfOk result (λ l. place l < next_place recipe.new) }
 {
     let high = and(recipe, leaf, if_true)?;
-    let low = and(recipe, complement(leaf), if_false)?;
+    let low = and(recipe, leaf.complement(), if_false)?;
     let lit = or(recipe, high, low)?;
     Ok(lit)
 }
@@ -241,8 +229,8 @@ fn or(recipe: &mut Recipe, a: Lit, b: Lit) -> Result<Lit, RecipeFull>
     ensures root { IfOk result (λ l. l ≡ (or_at (next_place recipe.old) a b).root) }
     ensures inside { IfOk result (λ l. place l < next_place recipe.new) }
 {
-    let lit = recipe.push(step(StepOp::And, complement(a), complement(b)))?;
-    Ok(complement(lit))
+    let lit = recipe.push(step(StepOp::And, a.complement(), b.complement()))?;
+    Ok(lit.complement())
 }
 
 /// Pushes the xor of two literals.

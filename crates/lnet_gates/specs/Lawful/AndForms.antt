@@ -8,7 +8,7 @@ use Rattle.lnet_gates.specs.Gates.{flip, and_of}
 use Rattle.lnet_gates.specs.Operands.{complemented, constant, is_same, ascending, read, moved}
 use Rattle.lnet_gates.specs.NormalLaws.{form_reading}
 use Rattle.lnet_gates.specs.NormalForms.{key_form, and_of_two, and_form}
-use Rattle.lnet_gates.proofs.OperandLemmas.{by_test, untrue, same-signal, same-self, complemented-twice, Apart, apart-sym, apart-not_same, not_same-apart, ascending-sym, two-ascending, not_complement, read-flipped, read-constant}
+use Rattle.lnet_gates.specs.Lawful.OperandLemmas.{by_test, untrue, same-signal, same-self, complemented-twice, Apart, apart-sym, apart-not_same, not_same-apart, ascending-sym, two-ascending, not_complement, read-flipped, read-constant}
 
 either_true : {A : Type 0} (x y : Bool) → (x || y) ≡ true → (x ≡ true → A) → (y ≡ true → A) → A
 either_true true y h p q = p refl

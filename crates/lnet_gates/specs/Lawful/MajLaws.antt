@@ -6,9 +6,9 @@ use Rattle.lnet_gates.specs.Gates.{flip, maj_of, operate}
 use Rattle.lnet_gates.specs.Operands.{flipped, ascending, read, moved}
 use Rattle.lnet_gates.specs.NormalForms.{maj_of_three, maj_form, normal_maj}
 use Rattle.lnet_gates.specs.NormalLaws.{IsGateOf, NormalLaws, NamesOnly, IsNativeForm, form_reading}
-use Rattle.lnet_gates.proofs.OperandLemmas.{named-ascending, length-ascending, three-ascending, read-flipped, moved-flipped}
-use Rattle.lnet_gates.proofs.FormLaws.{FormLaws, formed, normal_laws, three}
-use Rattle.lnet_gates.proofs.MajForms.{maj-by, maj-same_12, maj-same_13, maj-same_23, maj-unlike_12, maj-unlike_13, maj-unlike_23, maj-key_moved, most-swap, most-turn}
+use Rattle.lnet_gates.specs.Lawful.OperandLemmas.{named-ascending, length-ascending, three-ascending, read-flipped, moved-flipped}
+use Rattle.lnet_gates.specs.Lawful.FormLaws.{FormLaws, formed, normal_laws, three}
+use Rattle.lnet_gates.specs.Lawful.MajForms.{maj-by, maj-same_12, maj-same_13, maj-same_23, maj-unlike_12, maj-unlike_13, maj-unlike_23, maj-key_moved, most-swap, most-turn}
 
 -- ---- values
 

@@ -7,8 +7,8 @@ use Rattle.lnet_gates.specs.declared.normal.Normal.TheVariants.{Is, Gate}
 use Rattle.lnet_gates.specs.Gates.{flip, maj_of}
 use Rattle.lnet_gates.specs.Operands.{flipped, complemented, is_same, ascending, moved}
 use Rattle.lnet_gates.specs.NormalForms.{carried, key_form, turned_key, maj_of_three, maj_form}
-use Rattle.lnet_gates.proofs.OperandLemmas.{by_test, untrue, same-signal, same-self, not_complement, complemented-twice, Apart, apart-sym, apart-not_same, not_same-apart, ascending-swap, ascending-turn, three-ascending, moved-flipped}
-use Rattle.lnet_gates.proofs.FormLaws.{carried-false, carried-twice}
+use Rattle.lnet_gates.specs.Lawful.OperandLemmas.{by_test, untrue, same-signal, same-self, not_complement, complemented-twice, Apart, apart-sym, apart-not_same, not_same-apart, ascending-swap, ascending-turn, three-ascending, moved-flipped}
+use Rattle.lnet_gates.specs.Lawful.FormLaws.{carried-false, carried-twice}
 
 -- operands that no earlier case takes
 pub record IsMajKey (a b c : Signal) : Type 0 where

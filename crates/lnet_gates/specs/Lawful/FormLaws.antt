@@ -8,7 +8,7 @@ use Rattle.lnet_gates.specs.Gates.{GateValue, KeyValue, flip, operate}
 use Rattle.lnet_gates.specs.Operands.{constant, read, moved}
 use Rattle.lnet_gates.specs.NormalForms.{carried}
 use Rattle.lnet_gates.specs.NormalLaws.{IsGateOf, NormalLaws, NamesOnly, IsNativeForm, form_reading, gate_reading, formed_again, keyed_gate, replaced_in}
-use Rattle.lnet_gates.proofs.OperandLemmas.{flip-flip, flip-comm, flipped-flipped, read-flipped, moved-flipped}
+use Rattle.lnet_gates.specs.Lawful.OperandLemmas.{flip-flip, flip-comm, flipped-flipped, read-flipped, moved-flipped}
 
 -- a form after a replacement, formed again by its table
 abbrev pub formed : (List Signal → Normal) → (ℕ → Signal) → Normal → Normal

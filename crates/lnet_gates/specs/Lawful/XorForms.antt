@@ -8,8 +8,8 @@ use Rattle.lnet_gates.specs.Gates.{flip, xor_of}
 use Rattle.lnet_gates.specs.Operands.{flipped, complemented, plain, constant, is_same, ascending, read, moved}
 use Rattle.lnet_gates.specs.NormalForms.{carried, key_form, xor_of_two, xor_form}
 use Rattle.lnet_gates.specs.NormalLaws.{form_reading}
-use Rattle.lnet_gates.proofs.OperandLemmas.{by_test, untrue, same-signal, same-self, flip-flip, flip-comm, flipped-flipped, flipped-plain, complemented-twice, Apart, apart-sym, apart-not_same, not_same-apart, ascending-sym, two-ascending, not_complement, read-flipped, read-constant, moved-flipped}
-use Rattle.lnet_gates.proofs.FormLaws.{carried-carried, carried-false}
+use Rattle.lnet_gates.specs.Lawful.OperandLemmas.{by_test, untrue, same-signal, same-self, flip-flip, flip-comm, flipped-flipped, flipped-plain, complemented-twice, Apart, apart-sym, apart-not_same, not_same-apart, ascending-sym, two-ascending, not_complement, read-flipped, read-constant, moved-flipped}
+use Rattle.lnet_gates.specs.Lawful.FormLaws.{carried-carried, carried-false}
 
 -- operands that no earlier case takes
 pub record IsXorKey (a b : Signal) : Type 0 where

@@ -8,9 +8,9 @@ use Rattle.lnet_gates.specs.Gates.{GateValue, KeyValue, flip, operate}
 use Rattle.lnet_gates.specs.Operands.{constant, read, moved, ascending}
 use Rattle.lnet_gates.specs.NormalForms.{carried, and_of_two, and_form, normal_and}
 use Rattle.lnet_gates.specs.NormalLaws.{IsGateOf, NormalLaws, NamesOnly, IsNativeForm, form_reading}
-use Rattle.lnet_gates.proofs.OperandLemmas.{flip-comm, named-ascending, length-ascending, moved-flipped, moved-constant}
-use Rattle.lnet_gates.proofs.FormLaws.{FormLaws, formed, carried-false, normal_laws, two}
-use Rattle.lnet_gates.proofs.AndForms.{and-by, and-same, and-opposite, and-false_first, and-false_second, and-true_first, and-true_second, and-moved, and-value}
+use Rattle.lnet_gates.specs.Lawful.OperandLemmas.{flip-comm, named-ascending, length-ascending, moved-flipped, moved-constant}
+use Rattle.lnet_gates.specs.Lawful.FormLaws.{FormLaws, formed, carried-false, normal_laws, two}
+use Rattle.lnet_gates.specs.Lawful.AndForms.{and-by, and-same, and-opposite, and-false_first, and-false_second, and-true_first, and-true_second, and-moved, and-value}
 
 and-names : (a b : Signal) → NamesOnly (a ∷ b ∷ []) (and_of_two a b)
 and-names = and-by (λ a b n. NamesOnly (a ∷ b ∷ []) n)

@@ -7,9 +7,9 @@ use Rattle.lnet_gates.specs.Gates.{operate}
 use Rattle.lnet_gates.specs.Operands.{constant, plain, read, moved}
 use Rattle.lnet_gates.specs.NormalForms.{xor_of_two, xor_form, normal_xor}
 use Rattle.lnet_gates.specs.NormalLaws.{IsGateOf, NormalLaws, NamesOnly, IsNativeForm, form_reading}
-use Rattle.lnet_gates.proofs.OperandLemmas.{named-ascending, length-ascending, moved-flipped, moved-constant}
-use Rattle.lnet_gates.proofs.FormLaws.{FormLaws, formed, normal_laws, two}
-use Rattle.lnet_gates.proofs.XorForms.{xor-by, xor-same, xor-opposite, xor-first, xor-second, xor-moved, xor-value}
+use Rattle.lnet_gates.specs.Lawful.OperandLemmas.{named-ascending, length-ascending, moved-flipped, moved-constant}
+use Rattle.lnet_gates.specs.Lawful.FormLaws.{FormLaws, formed, normal_laws, two}
+use Rattle.lnet_gates.specs.Lawful.XorForms.{xor-by, xor-same, xor-opposite, xor-first, xor-second, xor-moved, xor-value}
 
 xor-names : (a b : Signal) → NamesOnly (a ∷ b ∷ []) (xor_of_two a b)
 xor-names = xor-by (λ a b n. NamesOnly (a ∷ b ∷ []) n)

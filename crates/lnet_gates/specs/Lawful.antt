@@ -1,0 +1,10 @@
+-- Lemmas of the laws that the kinds of networks have.
+pub mod OperandLemmas
+pub mod FormLaws
+pub mod AndForms
+pub mod AndLaws
+pub mod XorForms
+pub mod XorLaws
+pub mod MajForms
+pub mod MajLaws
+pub mod KindLaws

@@ -2,3 +2,4 @@ pub mod Gates
 pub mod Operands
 pub mod NormalForms
 pub mod NormalLaws
+pub mod LutForms

@@ -9,3 +9,5 @@ pub mod MajLaws
 pub mod NodeFunctions
 pub mod LutTables
 pub mod LutLaws
+pub mod TablingLemmas
+pub mod GateRows

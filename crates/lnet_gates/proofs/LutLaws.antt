@@ -19,7 +19,7 @@ use Rattle.lnet_gates.proofs.LutTables.{form-value, form-bound, literal-form, fo
 
 -- ---- the nodes that a gate reads
 
-grounded-same : (V W : ℕ → Bool) (n : ℕ) → V n ≡ W n → grounded V n ≡ grounded W n
+pub grounded-same : (V W : ℕ → Bool) (n : ℕ) → V n ≡ W n → grounded V n ≡ grounded W n
 grounded-same V W zero h = refl
 grounded-same V W (suc n) h = h
 
@@ -30,7 +30,7 @@ grounded-is V h = λ i. λ n. at n i
     at zero = sym h
     at (suc n) = refl
 
-read-same : (V W : ℕ → Bool) (ss : List Signal) → ((n : ℕ) → n < bound_of ss → V n ≡ W n) → map (read (grounded V)) ss ≡ map (read (grounded W)) ss
+pub read-same : (V W : ℕ → Bool) (ss : List Signal) → ((n : ℕ) → n < bound_of ss → V n ≡ W n) → map (read (grounded V)) ss ≡ map (read (grounded W)) ss
 read-same V W [] h = refl
 read-same V W (s ∷ ss) h = λ i. flip s.complement (grounded-same V W s.node.0 (h s.node.0 (omega arith)) i) ∷ read-same V W ss (λ n below. h n (omega arith)) i
 
@@ -47,7 +47,7 @@ named-or-not n (s ∷ ss) = by_node n s.node.0 (λ e. inl (inl e)) (λ ne. later
     later ne (inl h) = inl (inr h)
     later ne (inr same) = inr (λ V b i. flip s.complement (grounded-same (put V n b) V s.node.0 (put-other V n b s.node.0 (λ e. ne (sym e))) i) ∷ same V b i)
 
-changing-named : (g : GateValue) (n : ℕ) → changes_with (function_of g) (bound_of g.fanins) n ≡ true → IsNamedBy n g.fanins
+pub changing-named : (g : GateValue) (n : ℕ) → changes_with (function_of g) (bound_of g.fanins) n ≡ true → IsNamedBy n g.fanins
 changing-named g n h = elim (named-or-not n g.fanins) as (λ _. IsNamedBy n g.fanins) [
   | inl named ↦ named
   | inr same ↦ untrue (changes_with (function_of g) (bound_of g.fanins) n) h
@@ -142,7 +142,7 @@ few-pass (s ∷ ss) p b h =
     named : (n : ℕ) → without p s.node.0 n ≡ true → IsNamedBy n ss
     named n q = let d : (p n ≡ true) × (eqb n s.node.0 ≡ false) = parts (p n) (eqb n s.node.0) q in rest n (h n d.0) d.1
 
-six : (op : Op) (n : ℕ) → HasCount op n → n ≤ 6
+pub six : (op : Op) (n : ℕ) → HasCount op n → n ≤ 6
 six And n h = omega arith
 six Xor n h = omega arith
 six Maj n h = omega arith

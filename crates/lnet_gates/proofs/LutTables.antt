@@ -26,11 +26,11 @@ half : (b : Bool) (x : ℕ) → (cond b 1 0 + 2 * x) / 2 ≡ x
 half true x = omega arith
 half false x = omega arith
 
-lowest-row : (bs : List Bool) → lowest_bits (length bs) (row_of bs) ≡ bs
+pub lowest-row : (bs : List Bool) → lowest_bits (length bs) (row_of bs) ≡ bs
 lowest-row [] = refl
 lowest-row (b ∷ bs) = λ i. low b (row_of bs) i ∷ (ap (lowest_bits (length bs)) (half b (row_of bs)) ∙ lowest-row bs) i
 
-row-below : (bs : List Bool) → row_of bs < 2 ^ length bs
+pub row-below : (bs : List Bool) → row_of bs < 2 ^ length bs
 row-below [] = omega arith
 row-below (b ∷ bs) = let h : row_of bs < 2 ^ length bs = row-below bs in let e : 2 ^ suc (length bs) ≡ 2 ^ length bs * 2 = pow-suc 2 (length bs) in bit b (row_of bs) (2 ^ length bs) (2 ^ suc (length bs)) h e
   where

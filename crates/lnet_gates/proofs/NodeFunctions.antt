@@ -64,10 +64,10 @@ put-other V n b m h = cond-false (eqb m n) b (V m) (eqb-apart m n h)
 put-toward : (V W : ℕ → Bool) (n m : ℕ) → (m ≢ n → V m ≡ W m) → put V n (W n) m ≡ W m
 put-toward V W n m h = by_node m n (λ e. ap (put V n (W n)) e ∙ put-here V n (W n) ∙ ap W (sym e)) (λ ne. put-other V n (W n) m ne ∙ h ne)
 
-put-own : (V : ℕ → Bool) (n : ℕ) → put V n (V n) ≡ V
+pub put-own : (V : ℕ → Bool) (n : ℕ) → put V n (V n) ≡ V
 put-own V n = λ i. λ m. put-toward V V n m (λ _. refl) i
 
-put-same : (V W : ℕ → Bool) (n : ℕ) (b : Bool) (m : ℕ) → (m ≢ n → V m ≡ W m) → put V n b m ≡ put W n b m
+pub put-same : (V W : ℕ → Bool) (n : ℕ) (b : Bool) (m : ℕ) → (m ≢ n → V m ≡ W m) → put V n b m ≡ put W n b m
 put-same V W n b m h =
     by_node m n
     (λ e. ap (put V n b) e ∙ put-here V n b ∙ sym (put-here W n b) ∙ ap (put W n b) (sym e))
@@ -138,6 +138,15 @@ in-right : (m : ℕ) (ns os : List ℕ) → IsIn m os → IsIn m (ns ++ os)
 in-right m [] os h = h
 in-right m (n ∷ ns) os h = inr (in-right m ns os h)
 
+pub in-split : (m : ℕ) (ns os : List ℕ) → IsIn m (ns ++ os) → IsIn m ns ⊎ IsIn m os
+in-split m [] os h = inr h
+in-split m (n ∷ ns) os (inl e) = inl (inl e)
+in-split m (n ∷ ns) os (inr h) = later (in-split m ns os h)
+  where
+    later : IsIn m ns ⊎ IsIn m os → IsIn m (n ∷ ns) ⊎ IsIn m os
+    later (inl k) = inl (inr k)
+    later (inr k) = inr k
+
 pub in-passing : (p : ℕ → Bool) (bound m : ℕ) → m < bound → p m ≡ true → IsIn m (passing p bound)
 in-passing p zero m below h = absurd (omega arith)
 in-passing p (suc n) m below h =
@@ -204,7 +213,7 @@ determined f bound reads = from bound (λ V W below same. reads V W below)
         (λ h. told V W (λ n lt. by_node n b (λ e. ap V e ∙ same b h ∙ ap W (sym e)) (λ ne. below n (omega arith))) same)
         (λ h. sym (ignores f bound b reads h V (W b)) ∙ told (put V b (W b)) W (λ n lt. put-toward V W b n (λ ne. below n (omega arith))) (λ n k. put-toward V W b n (λ _. same n k))))
 
-assigned-in : (V : ℕ → Bool) (ns : List ℕ) (m : ℕ) → IsIn m ns → assigned ns (map V ns) m ≡ V m
+pub assigned-in : (V : ℕ → Bool) (ns : List ℕ) (m : ℕ) → IsIn m ns → assigned ns (map V ns) m ≡ V m
 assigned-in V [] m h = absurd h
 assigned-in V (n ∷ ns) m h = by_test (λ r. r ≡ V m) (eqb m n) (V n) (assigned ns (map V ns) m) (λ k. ap V (sym (eqb-same m n k))) (λ k. later (assigned-in V ns m) k h)
   where

@@ -3,3 +3,4 @@ pub mod Operands
 pub mod NormalForms
 pub mod NormalLaws
 pub mod LutForms
+pub mod Tabling

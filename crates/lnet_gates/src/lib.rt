@@ -6,6 +6,7 @@ mod gate;
 mod laws;
 mod normal;
 mod signal;
+mod tabling;
 #[cfg(test)]
 mod tests;
 
@@ -17,3 +18,4 @@ pub use laws::{
 };
 pub use normal::{Key, Normal};
 pub use signal::{Node, Signal};
+pub use tabling::normal_lut;

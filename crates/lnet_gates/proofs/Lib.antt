@@ -3,3 +3,5 @@ pub mod RemadeMeans
 pub mod PlanLaws
 pub mod LaidInTurn
 pub mod Underway
+pub mod TablingLemmas
+pub mod GateRows

@@ -7,4 +7,7 @@ pub mod XorForms
 pub mod XorLaws
 pub mod MajForms
 pub mod MajLaws
+pub mod NodeFunctions
+pub mod LutTables
+pub mod LutLaws
 pub mod KindLaws

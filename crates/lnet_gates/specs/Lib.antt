@@ -8,3 +8,5 @@ pub mod Plans
 pub mod Laying
 pub mod Natives
 pub mod Lawful
+pub mod LutForms
+pub mod Tabling

@@ -1,6 +1,6 @@
 -- Which gates a kind has, and the normal forms of And, Xor and Maj gates as one function. Source: the textbook's names of the
 -- networks.
-use Rattle.std.specs.Prelude.{◌≡◌, true, List, length}
+use Rattle.std.specs.Prelude.{◌≡◌, ◌<◌, ◌^◌, true, List, length}
 use Rattle.lnet_gates.specs.declared.signal.Signal.{Signal}
 use Rattle.lnet_gates.specs.declared.gate.Kind.{Kind}
 use Rattle.lnet_gates.specs.declared.gate.Op.{Op}
@@ -10,10 +10,18 @@ use Rattle.lnet_gates.specs.Gates.{GateValue}
 use Rattle.lnet_gates.specs.NormalForms.{carried, as_it_stands, and_form, xor_form, maj_form}
 use Rattle.lnet_gates.specs.Plans.{is_native, Takes}
 
--- the gates of the kind have its operation, and it has as many fanins as the operation takes
+-- a table has 64 bits
+abbrev pub FitsWord : Op → Type 0
+FitsWord And = Unit {0}
+FitsWord Xor = Unit {0}
+FitsWord Maj = Unit {0}
+FitsWord (Lut t) = t < 2 ^ 64
+
+-- the gates of the kind have its operation, it has as many fanins as the operation takes, and its table is a word
 pub record IsNativeGate (kind : Kind) (g : GateValue) : Type 0 where
   pub has : is_native kind g.op ≡ true
   pub takes : Takes g.op (length g.fanins)
+  pub fits : FitsWord g.op
 
 -- the normal form of an operation of these signals; a Lut stands as it is
 abbrev pub form_by_op : Op → List Signal → Normal

@@ -3,18 +3,20 @@
 ghost use Rattle.std.specs.Prelude.{◌≡◌, ◌≤◌, ◌↔◌, IsTrue, length};
 ghost use Rattle.lnet_tables.specs.Recipes.{sim};
 ghost use Rattle.lnet_gates.specs.declared.gate.Kind.{Kind};
-ghost use Rattle.lnet_gates.specs.declared.gate.Kind.TheVariants.{Aig, Xag, Mig};
+ghost use Rattle.lnet_gates.specs.declared.gate.Kind.TheVariants.{Aig, Xag, Mig, Klut};
 ghost use Rattle.lnet_gates.specs.declared.normal.Normal.{Normal};
 ghost use Rattle.lnet_gates.specs.Gates.{GateValue};
 ghost use Rattle.lnet_gates.specs.NormalLaws.{NormalLaws};
 ghost use Rattle.lnet_gates.specs.Natives.{IsNativeGate, normal_by_op};
+ghost use Rattle.lnet_gates.specs.LutForms as luts;
 ghost use Rattle.lnet_gates.specs.Plans.{Takes, plan_of, is_native, IsPlanNative, IfSteps, AllNative, op_rows};
-ghost use Rattle.lnet_gates.specs.Lawful.KindLaws.{aig_laws, xag_laws, mig_laws};
+ghost use Rattle.lnet_gates.specs.Lawful.KindLaws.{aig_laws, xag_laws, mig_laws, klut_laws};
 
 use crate::forming::{normal_and, normal_maj, normal_xor};
 use crate::gate::{Gate, Kind, Op};
 use crate::normal::Normal;
 use crate::planning::Plan;
+use crate::tabling::normal_lut;
 
 /// The gates of one kind of network.
 pub trait Gates {
@@ -103,4 +105,22 @@ impl Gates for MigGates {
     }
 
     ghost laws = { mig_laws };
+}
+
+/// The gates of a network of look-up tables. Every operation is native; the normal form of a gate is a signal or the key of
+/// a `Lut`.
+pub struct KlutGates;
+
+impl Gates for KlutGates {
+    ghost KIND = { Klut };
+
+    ghost form = { luts.normal_lut };
+
+    const KIND: Kind = Kind::Klut;
+
+    fn normal(gate: &Gate) -> Normal {
+        normal_lut(gate)
+    }
+
+    ghost laws = { klut_laws };
 }

@@ -6,6 +6,7 @@ ghost use Rattle.lnet_gates.specs.declared.normal.Normal.TheVariants.{Gate};
 ghost use Rattle.lnet_gates.specs.Gates.{GateValue, KeyValue, apply};
 ghost use Rattle.lnet_gates.specs.NormalForms.{normal_and, normal_xor, normal_maj};
 ghost use Rattle.lnet_gates.specs.NormalLaws.{NormalLaws, IsGateOf};
+ghost use Rattle.lnet_gates.specs.LutForms.{IsLutGate, normal_lut};
 
 /// An And is both of two, and a Xor is exactly one of two; a phase complements the value.
 pub fn and_xor_rows()
@@ -42,6 +43,12 @@ pub fn and_forms_are_lawful()
 /// The normal form of Xor keeps values, names, itself and replacement.
 pub fn xor_forms_are_lawful()
     ensures { NormalLaws (IsGateOf Xor 2) normal_xor }
+{}
+
+/// The normal form of a gate of look-up tables keeps values, names, itself and replacement. The gates of two fanins with And
+/// or Xor, of three with Maj, and of up to six with a table are native.
+pub fn lut_forms_are_lawful()
+    ensures { NormalLaws IsLutGate normal_lut }
 {}
 
 /// The normal form of Maj keeps values, names, itself and replacement.

@@ -10,7 +10,7 @@ use Rattle.lnet_gates.specs.NormalLaws.{form_reading}
 use Rattle.lnet_gates.specs.NormalForms.{key_form, and_of_two, and_form}
 use Rattle.lnet_gates.specs.Lawful.OperandLemmas.{by_test, untrue, same-signal, same-self, complemented-twice, Apart, apart-sym, apart-not_same, not_same-apart, ascending-sym, two-ascending, not_complement, read-flipped, read-constant}
 
-either_true : {A : Type 0} (x y : Bool) → (x || y) ≡ true → (x ≡ true → A) → (y ≡ true → A) → A
+pub either_true : {A : Type 0} (x y : Bool) → (x || y) ≡ true → (x ≡ true → A) → (y ≡ true → A) → A
 either_true true y h p q = p refl
 either_true false y h p q = q h
 
@@ -18,7 +18,7 @@ neither_true : (x y : Bool) → (x || y) ≡ false → (x ≡ false) × (y ≡ f
 neither_true true y h = cc
 neither_true false y h = (refl, h)
 
-or-true : (x y : Bool) → y ≡ true → (x || y) ≡ true
+pub or-true : (x y : Bool) → y ≡ true → (x || y) ≡ true
 or-true true y h = refl
 or-true false y h = h
 

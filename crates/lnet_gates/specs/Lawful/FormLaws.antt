@@ -50,10 +50,10 @@ native-carried op count c (Gate k phase) h = record { op_is = h.op_is; count_is 
 
 -- ---- node by node as it is
 
-abbrev in_place : ℕ → Signal
+abbrev pub in_place : ℕ → Signal
 in_place n = record { node = record { 0 = n }; complement = false }
 
-moved-in_place : (ss : List Signal) → map (moved in_place) ss ≡ ss
+pub moved-in_place : (ss : List Signal) → map (moved in_place) ss ≡ ss
 moved-in_place [] = refl
 moved-in_place (s ∷ ss) = λ i. record { node = s.node; complement = flip-comm s.complement false i } ∷ moved-in_place ss i
 

@@ -4,7 +4,7 @@ use Rattle.std.proofs.lemmas.List.{length-map}
 use Rattle.std.proofs.lemmas.Bool.{false≢true}
 use Rattle.lnet_gates.specs.declared.signal.Signal.{Signal}
 use Rattle.lnet_gates.specs.declared.gate.Kind.{Kind}
-use Rattle.lnet_gates.specs.declared.gate.Kind.TheVariants.{Aig, Xag, Mig}
+use Rattle.lnet_gates.specs.declared.gate.Kind.TheVariants.{Aig, Xag, Mig, Klut}
 use Rattle.lnet_gates.specs.declared.gate.Op.{Op}
 use Rattle.lnet_gates.specs.declared.gate.Op.TheVariants.{And, Xor, Maj, Lut}
 use Rattle.lnet_gates.specs.declared.normal.Normal.{Normal}
@@ -14,11 +14,13 @@ use Rattle.lnet_gates.specs.Operands.{constant, moved}
 use Rattle.lnet_gates.specs.NormalForms.{carried, normal_and, normal_xor, normal_maj}
 use Rattle.lnet_gates.specs.NormalLaws.{IsGateOf, NormalLaws, NamesOnly, IsNativeForm, form_reading, gate_reading, formed_again, keyed_gate, replaced_in}
 use Rattle.lnet_gates.specs.Plans.{is_native, Takes}
-use Rattle.lnet_gates.specs.Natives.{IsNativeGate, form_by_op, normal_by_op}
+use Rattle.lnet_gates.specs.Natives.{IsNativeGate, FitsWord, form_by_op, normal_by_op}
+use Rattle.lnet_gates.specs.LutForms.{HasCount, IsLutGate, normal_lut}
 use Rattle.lnet_gates.specs.Lawful.FormLaws.{carried-carried}
 use Rattle.lnet_gates.specs.Lawful.AndLaws.{and_laws}
 use Rattle.lnet_gates.specs.Lawful.XorLaws.{xor_laws}
 use Rattle.lnet_gates.specs.Lawful.MajLaws.{maj_laws}
+use Rattle.lnet_gates.specs.Lawful.LutLaws.{lut_laws}
 
 -- a form that is native for one test is native for a wider one
 native_as : (P Q : GateValue → Type 0) → ((g : GateValue) → P g → Q g) → (n : Normal) → IsNativeForm P n → IsNativeForm Q n
@@ -81,20 +83,21 @@ xor_same g of = ap (λ (op : Op). carried g.phase (form_by_op op g.fanins)) of.o
 maj_same : (g : GateValue) → IsGateOf Maj 3 g → normal_by_op g ≡ normal_maj g
 maj_same g of = ap (λ (op : Op). carried g.phase (form_by_op op g.fanins)) of.op_is
 
-native_by : (kind : Kind) (op : Op) (g : GateValue) → g.op ≡ op → is_native kind op ≡ true → Takes op (length g.fanins) → IsNativeGate kind g
-native_by kind op g e has takes = record {
+native_by : (kind : Kind) (op : Op) (g : GateValue) → g.op ≡ op → is_native kind op ≡ true → Takes op (length g.fanins) → FitsWord op → IsNativeGate kind g
+native_by kind op g e has takes fits = record {
   has = ap (is_native kind) e ∙ has;
   takes = subst (λ (o : Op). Takes o (length g.fanins)) (sym e) takes;
+  fits = subst FitsWord (sym e) fits;
 }
 
 and_in : (kind : Kind) → is_native kind And ≡ true → (g : GateValue) → IsGateOf And 2 g → LawsAt kind g
-and_in kind has = laws_at kind And 2 normal_and and_laws and_same (λ g of. native_by kind And g of.op_is has of.count_is)
+and_in kind has = laws_at kind And 2 normal_and and_laws and_same (λ g of. native_by kind And g of.op_is has of.count_is tt)
 
 xor_in : (kind : Kind) → is_native kind Xor ≡ true → (g : GateValue) → IsGateOf Xor 2 g → LawsAt kind g
-xor_in kind has = laws_at kind Xor 2 normal_xor xor_laws xor_same (λ g of. native_by kind Xor g of.op_is has of.count_is)
+xor_in kind has = laws_at kind Xor 2 normal_xor xor_laws xor_same (λ g of. native_by kind Xor g of.op_is has of.count_is tt)
 
 maj_in : (kind : Kind) → is_native kind Maj ≡ true → (g : GateValue) → IsGateOf Maj 3 g → LawsAt kind g
-maj_in kind has = laws_at kind Maj 3 normal_maj maj_laws maj_same (λ g of. native_by kind Maj g of.op_is has of.count_is)
+maj_in kind has = laws_at kind Maj 3 normal_maj maj_laws maj_same (λ g of. native_by kind Maj g of.op_is has of.count_is tt)
 
 -- ---- the kinds
 aig_at : (op : Op) (g : GateValue) → g.op ≡ op → is_native Aig op ≡ true → Takes op (length g.fanins) → LawsAt Aig g
@@ -123,3 +126,33 @@ xag_laws = kind_laws Xag (λ g n. xag_at g.op g refl n.has n.takes)
 
 pub mig_laws : NormalLaws (IsNativeGate Mig) normal_by_op
 mig_laws = kind_laws Mig (λ g n. mig_at g.op g refl n.has n.takes)
+
+-- ---- look-up tables
+-- the gates of a network of look-up tables, by their operation
+lut_gate : (op : Op) (n : ℕ) → Takes op n → FitsWord op → HasCount op n
+lut_gate And n takes fits = takes
+lut_gate Xor n takes fits = takes
+lut_gate Maj n takes fits = takes
+lut_gate (Lut t) n takes fits = (takes, fits)
+
+lut_native : (op : Op) (n : ℕ) → HasCount op n → (is_native Klut op ≡ true) × Takes op n × FitsWord op
+lut_native And n h = (refl, h, tt)
+lut_native Xor n h = (refl, h, tt)
+lut_native Maj n h = (refl, h, tt)
+lut_native (Lut t) n h = (refl, h.0, h.1)
+
+to_lut : (g : GateValue) → IsNativeGate Klut g → IsLutGate g
+to_lut g n = lut_gate g.op (length g.fanins) n.takes n.fits
+
+from_lut : (g : GateValue) → IsLutGate g → IsNativeGate Klut g
+from_lut g h = let n = lut_native g.op (length g.fanins) h in record { has = n.0; takes = n.1; fits = n.2 }
+
+pub klut_laws : NormalLaws (IsNativeGate Klut) normal_lut
+klut_laws = record {
+  value = λ V g zero_false n. lut_laws.value V g zero_false (to_lut g n);
+  names = λ g n. lut_laws.names g (to_lut g n);
+  native = λ g n. native_as IsLutGate (IsNativeGate Klut) from_lut (normal_lut g) (lut_laws.native g (to_lut g n));
+  stable = λ g k phase n e. lut_laws.stable g k phase (to_lut g n) e;
+  carries = λ c g. lut_laws.carries c g;
+  agrees = λ place g kept n. lut_laws.agrees place g kept (to_lut g n);
+}

@@ -11,3 +11,4 @@ pub mod LutTables
 pub mod LutLaws
 pub mod TablingLemmas
 pub mod GateRows
+pub mod LutKeys

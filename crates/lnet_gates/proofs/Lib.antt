@@ -5,3 +5,4 @@ pub mod LaidInTurn
 pub mod Underway
 pub mod TablingLemmas
 pub mod GateRows
+pub mod LutKeys

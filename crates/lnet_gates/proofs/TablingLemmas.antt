@@ -54,7 +54,7 @@ passing-below p (suc n) m h = from (passing-below p n m) (in-split m (passing p 
     from before (inl i) last = let lt : m < n = before i in omega arith
     from before (inr i) last = last i
 
-passing-ascends : (p : ℕ → Bool) (b : ℕ) → Ascends (passing p b)
+pub passing-ascends : (p : ℕ → Bool) (b : ℕ) → Ascends (passing p b)
 passing-ascends p zero = tt
 passing-ascends p (suc n) = by_test (λ ns. Ascends (passing p n ++ ns)) (p n) (n ∷ []) [] (λ _. ascends-last (passing p n) n (passing-ascends p n) (λ m h. passing-below p n m h)) (λ _. none (passing p n) (passing-ascends p n))
   where

@@ -11,3 +11,4 @@ pub mod NodeFunctions
 pub mod LutTables
 pub mod LutLaws
 pub mod KindLaws
+pub mod AndPhases

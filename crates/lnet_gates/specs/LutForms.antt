@@ -2,15 +2,16 @@
 -- changes with, ascending. Source: canonical truth tables over the functional support, R. E. Bryant, "Graph-Based Algorithms
 -- for Boolean Function Manipulation", IEEE Transactions on Computers 35 (1986), section 2.
 use Rattle.std.specs.Prelude.{◌≡◌, ℕ, zero, suc, ◌*◌, ◌/◌, ◌%◌, ◌^◌, ◌<◌, ◌≤◌, Bool, false, true, cond, ◌||◌, List, [], ◌∷◌, ◌++◌, map, length, eqb, max}
+use Rattle.std.specs.Int.{bit_at}
 use Rattle.lnet_tables.specs.Bits.{number_by}
 use Rattle.lnet_gates.specs.declared.signal.Signal.{Signal}
 use Rattle.lnet_gates.specs.declared.gate.Op.{Op}
 use Rattle.lnet_gates.specs.declared.gate.Op.TheVariants.{And, Xor, Maj, Lut}
 use Rattle.lnet_gates.specs.declared.normal.Normal.{Normal}
 use Rattle.lnet_gates.specs.declared.normal.Normal.TheVariants.{Is, Gate}
-use Rattle.lnet_gates.specs.Gates.{GateValue, flip}
-use Rattle.lnet_gates.specs.Operands.{constant}
-use Rattle.lnet_gates.specs.NormalLaws.{gate_reading}
+use Rattle.lnet_gates.specs.Gates.{GateValue, KeyValue, flip}
+use Rattle.lnet_gates.specs.Operands.{constant, IsNamedBy}
+use Rattle.lnet_gates.specs.NormalLaws.{gate_reading, keyed_gate}
 
 -- ---- gates
 
@@ -101,3 +102,21 @@ bound_of (s ∷ ss) = max (suc s.node.0) (bound_of ss)
 -- the normal form of a gate in a network of look-up tables: the form of its function
 abbrev pub normal_lut : GateValue → Normal
 normal_lut g = function_form (function_of g) (bound_of g.fanins)
+
+-- ---- keys
+
+-- plain signals of nodes from n on, each of a lower node than the next
+abbrev pub AscendsFrom : ℕ → List Signal → Type 0
+AscendsFrom n [] = Unit
+AscendsFrom n (s ∷ ss) = (s.complement ≡ false) × (n ≤ s.node.0) × AscendsFrom (suc s.node.0) ss
+
+-- what the key of a look-up table is: a table whose row 0 is false, over two or more plain operands, ascending, none of them
+-- constant and none without influence
+pub record IsTableKey (k : KeyValue) (phase : Bool) : Type 0 where
+  pub table : ℕ
+  pub op_is : k.op ≡ Lut table
+  pub row_zero : bit_at table 0 ≡ 0
+  pub clear : table < 2 ^ 2 ^ length k.fanins
+  pub two : 2 ≤ length k.fanins
+  pub operands : AscendsFrom 1 k.fanins
+  pub needed : (n : ℕ) → IsNamedBy n k.fanins → changes_with (function_of (keyed_gate k phase)) (bound_of k.fanins) n ≡ true

@@ -3,6 +3,7 @@
 use Rattle.std.specs.Prelude.{◌≡◌, ℕ, ◌⊎◌, Bool, false, List, map, length}
 use Rattle.lnet_gates.specs.declared.signal.Signal.{Signal}
 use Rattle.lnet_gates.specs.declared.gate.Op.{Op}
+use Rattle.lnet_gates.specs.declared.gate.Op.TheVariants.{And}
 use Rattle.lnet_gates.specs.declared.normal.Normal.{Normal}
 use Rattle.lnet_gates.specs.declared.normal.Normal.TheVariants.{Is, Gate}
 use Rattle.lnet_gates.specs.Gates.{GateValue, KeyValue, flip, apply}
@@ -64,3 +65,7 @@ pub record NormalLaws (Native : GateValue → Type 0) (normal : GateValue → No
   pub carries : (c : Bool) (g : GateValue) → normal (rephased c g) ≡ carried c (normal g)
   -- nodes may be replaced before or after, if node 0 stays
   pub agrees : (place : ℕ → Signal) (g : GateValue) → place 0 ≡ constant false → Native g → normal (replaced_in place g) ≡ formed_again normal place (normal g)
+
+-- a key of an And has the phase of the native gate whose form it is
+abbrev pub AndsKeepPhase : (GateValue → Type 0) → (GateValue → Normal) → Type 0
+AndsKeepPhase Native normal = (g : GateValue) (k : KeyValue) (phase : Bool) → Native g → normal g ≡ Gate k phase → k.op ≡ And → phase ≡ g.phase

@@ -6,10 +6,11 @@ ghost use Rattle.lnet_gates.specs.declared.gate.Kind.{Kind};
 ghost use Rattle.lnet_gates.specs.declared.gate.Kind.TheVariants.{Aig, Xag, Mig, Klut};
 ghost use Rattle.lnet_gates.specs.declared.normal.Normal.{Normal};
 ghost use Rattle.lnet_gates.specs.Gates.{GateValue};
-ghost use Rattle.lnet_gates.specs.NormalLaws.{NormalLaws};
+ghost use Rattle.lnet_gates.specs.NormalLaws.{NormalLaws, AndsKeepPhase};
 ghost use Rattle.lnet_gates.specs.Natives.{IsNativeGate, normal_by_op};
 ghost use Rattle.lnet_gates.specs.LutForms as luts;
 ghost use Rattle.lnet_gates.specs.Plans.{Takes, plan_of, is_native, IsPlanNative, IfSteps, AllNative, op_rows};
+ghost use Rattle.lnet_gates.specs.Lawful.AndPhases.{aig_phases, xag_phases, mig_phases, klut_phases};
 ghost use Rattle.lnet_gates.specs.Lawful.KindLaws.{aig_laws, xag_laws, mig_laws, klut_laws};
 
 use crate::forming::{normal_and, normal_maj, normal_xor};
@@ -37,6 +38,9 @@ pub trait Gates {
 
     /// The normal forms keep values, names, themselves and replacement.
     ghost laws: { NormalLaws (IsNativeGate KIND) form };
+
+    /// A key of an And has the gate's phase.
+    ghost and_phase: { AndsKeepPhase (IsNativeGate KIND) form };
 
     /// How a network of the kind lays the operation on `arity` operands, as `Kind::plan` says: `And` and `Xor` take 2, `Maj`
     /// takes 3, and `Lut` 0 to 6.
@@ -68,6 +72,8 @@ impl Gates for AigGates {
     }
 
     ghost laws = { aig_laws };
+
+    ghost and_phase = { aig_phases };
 }
 
 /// The gates of a xor-and graph.
@@ -88,6 +94,8 @@ impl Gates for XagGates {
     }
 
     ghost laws = { xag_laws };
+
+    ghost and_phase = { xag_phases };
 }
 
 /// The gates of a majority-inverter graph.
@@ -105,6 +113,8 @@ impl Gates for MigGates {
     }
 
     ghost laws = { mig_laws };
+
+    ghost and_phase = { mig_phases };
 }
 
 /// The gates of a network of look-up tables. Every operation is native; the normal form of a gate is a signal or the key of
@@ -123,4 +133,6 @@ impl Gates for KlutGates {
     }
 
     ghost laws = { klut_laws };
+
+    ghost and_phase = { klut_phases };
 }

@@ -1,12 +1,12 @@
 //! Worked rows of what the gates compute, and the laws of their normal forms.
 
-ghost use Rattle.std.specs.Prelude.{◌≡◌, ◌&&◌, ◌||◌, Bool, true, false, not, [], ◌∷◌};
+ghost use Rattle.std.specs.Prelude.{◌≡◌, ℕ, ◌&&◌, ◌||◌, Bool, true, false, not, [], ◌∷◌};
 ghost use Rattle.lnet_gates.specs.declared.gate.Op.TheVariants.{And, Xor, Maj, Lut};
 ghost use Rattle.lnet_gates.specs.declared.normal.Normal.TheVariants.{Gate};
 ghost use Rattle.lnet_gates.specs.Gates.{GateValue, KeyValue, apply};
 ghost use Rattle.lnet_gates.specs.NormalForms.{normal_and, normal_xor, normal_maj};
-ghost use Rattle.lnet_gates.specs.NormalLaws.{NormalLaws, IsGateOf};
-ghost use Rattle.lnet_gates.specs.LutForms.{IsLutGate, normal_lut};
+ghost use Rattle.lnet_gates.specs.NormalLaws.{NormalLaws, IsGateOf, gate_reading};
+ghost use Rattle.lnet_gates.specs.LutForms.{IsLutGate, IsTableKey, normal_lut};
 
 /// An And is both of two, and a Xor is exactly one of two; a phase complements the value.
 pub fn and_xor_rows()
@@ -47,8 +47,11 @@ pub fn xor_forms_are_lawful()
 
 /// The normal form of a gate of look-up tables keeps values, names, itself and replacement. The gates of two fanins with And
 /// or Xor, of three with Maj, and of up to six with a table are native.
+/// Gates of one function have one normal form, and a key's table has row 0 false and no operand without influence.
 pub fn lut_forms_are_lawful()
-    ensures { NormalLaws IsLutGate normal_lut }
+    ensures laws { NormalLaws IsLutGate normal_lut }
+    ensures canonical { (g h : GateValue) → ((V : ℕ → Bool) → V 0 ≡ false → gate_reading V g ≡ gate_reading V h) → normal_lut g ≡ normal_lut h }
+    ensures keys { (g : GateValue) (k : KeyValue) (phase : Bool) → IsLutGate g → normal_lut g ≡ Gate k phase → IsTableKey k phase }
 {}
 
 /// The normal form of Maj keeps values, names, itself and replacement.

@@ -2,7 +2,7 @@
 
 ghost use Rattle.std.specs.Prelude.{◌≡◌, [], ◌∷◌};
 
-use crate::{Gate, Node, Normal, Op, Signal, normal_and, normal_maj, normal_xor};
+use crate::{Gate, Node, Normal, Op, Signal, normal_and, normal_lut, normal_maj, normal_xor};
 use arrayvec::ArrayVec;
 
 fn read(node: u32, complement: bool) -> Signal
@@ -93,4 +93,38 @@ fn gates_are_formed(rt: HostRuntime) {
         )
     );
     assert!(rt; is_signal(&normal_maj(&three(true, c, b, not_b)).carried(true), c));
+}
+
+#[test]
+fn gates_are_tabled(rt: HostRuntime) {
+    let (a, b, c) = (read(1, false), read(2, false), read(3, false));
+    let (not_a, not_b) = (read(1, true), read(2, true));
+    assert!(rt;
+        is_key(
+            &normal_lut(&three(true, c, not_b, not_a)),
+            Op::Lut(0x8e),
+            &[a, b, c],
+            false
+        )
+    );
+    assert!(rt;
+        is_key(
+            &normal_lut(&two(Op::And, true, b, a)),
+            Op::Lut(0x8),
+            &[a, b],
+            true
+        )
+    );
+    assert!(rt;
+        is_signal(
+            &normal_lut(&two(Op::Lut(0x6), false, a, not_a)),
+            read(0, true)
+        )
+    );
+    assert!(rt;
+        is_signal(
+            &normal_lut(&two(Op::Lut(0x8), true, a, read(0, true))),
+            not_a
+        )
+    );
 }

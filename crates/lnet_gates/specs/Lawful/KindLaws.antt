@@ -74,13 +74,13 @@ kind_laws kind at = record {
 }
 
 -- ---- the operations
-and_same : (g : GateValue) → IsGateOf And 2 g → normal_by_op g ≡ normal_and g
+pub and_same : (g : GateValue) → IsGateOf And 2 g → normal_by_op g ≡ normal_and g
 and_same g of = ap (λ (op : Op). carried g.phase (form_by_op op g.fanins)) of.op_is
 
-xor_same : (g : GateValue) → IsGateOf Xor 2 g → normal_by_op g ≡ normal_xor g
+pub xor_same : (g : GateValue) → IsGateOf Xor 2 g → normal_by_op g ≡ normal_xor g
 xor_same g of = ap (λ (op : Op). carried g.phase (form_by_op op g.fanins)) of.op_is
 
-maj_same : (g : GateValue) → IsGateOf Maj 3 g → normal_by_op g ≡ normal_maj g
+pub maj_same : (g : GateValue) → IsGateOf Maj 3 g → normal_by_op g ≡ normal_maj g
 maj_same g of = ap (λ (op : Op). carried g.phase (form_by_op op g.fanins)) of.op_is
 
 native_by : (kind : Kind) (op : Op) (g : GateValue) → g.op ≡ op → is_native kind op ≡ true → Takes op (length g.fanins) → FitsWord op → IsNativeGate kind g

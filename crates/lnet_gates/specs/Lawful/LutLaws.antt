@@ -57,7 +57,7 @@ changing-named g n h = elim (named-or-not n g.fanins) as (λ _. IsNamedBy n g.fa
 support-named : (g : GateValue) (n : ℕ) → IsIn n (support (function_of g) (bound_of g.fanins)) → IsNamedBy n g.fanins
 support-named g n h = changing-named g n (in-passes (changes_with (function_of g) (bound_of g.fanins)) (bound_of g.fanins) n h)
 
-named-signals : (n : ℕ) (ns : List ℕ) → IsNamedBy n (map (signal_of false) ns) → IsIn n ns
+pub named-signals : (n : ℕ) (ns : List ℕ) → IsNamedBy n (map (signal_of false) ns) → IsIn n ns
 named-signals n [] h = h
 named-signals n (m ∷ ns) (inl e) = inl e
 named-signals n (m ∷ ns) (inr h) = inr (named-signals n ns h)
@@ -211,7 +211,7 @@ again place g keeps (Gate k phase) means =
 agrees : (place : ℕ → Signal) (g : GateValue) → place 0 ≡ constant false → IsLutGate g → normal_lut (replaced_in place g) ≡ formed_again normal_lut place (normal_lut g)
 agrees place g keeps of = again place g keeps (normal_lut g) (λ V zero_false. told V g zero_false)
 
-stable : (g : GateValue) (k : KeyValue) (phase : Bool) → IsLutGate g → normal_lut g ≡ Gate k phase → normal_lut (keyed_gate k phase) ≡ Gate k phase
+pub stable : (g : GateValue) (k : KeyValue) (phase : Bool) → IsLutGate g → normal_lut g ≡ Gate k phase → normal_lut (keyed_gate k phase) ≡ Gate k phase
 stable g k phase of is_key =
     ap (λ ss. normal_lut (record { op = k.op; phase = phase; fanins = ss })) (sym (moved-in_place k.fanins))
     ∙ ap (formed_again normal_lut in_place) (sym is_key)
@@ -222,3 +222,12 @@ stable g k phase of is_key =
 -- the normal form of gates in networks of look-up tables has the laws of normal forms
 pub lut_laws : NormalLaws IsLutGate normal_lut
 lut_laws = record { value = value; names = λ g of. names g of; native = native; stable = stable; carries = carries; agrees = agrees }
+
+-- gates of one function have one normal form
+pub same-form : (g h : GateValue) → ((V : ℕ → Bool) → V 0 ≡ false → gate_reading V g ≡ gate_reading V h) → normal_lut g ≡ normal_lut h
+same-form g h same =
+    ap (λ f. function_form f (bound_of g.fanins)) one
+    ∙ form-bound (function_of h) (bound_of g.fanins) (bound_of h.fanins) (subst (λ f. ReadsBelow f (bound_of g.fanins)) one (reads-gate g)) (reads-gate h)
+  where
+    one : function_of g ≡ function_of h
+    one = λ i. λ V. same (grounded V) refl i

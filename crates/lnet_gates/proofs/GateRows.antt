@@ -91,7 +91,7 @@ read-alike : (V W : ℕ → Bool) (ss : List Signal) → ((n : ℕ) → IsIn n (
 read-alike V W [] h = refl
 read-alike V W (s ∷ ss) h = λ i. flip s.complement (grounded-same V W s.node.0 (h s.node.0 (inl refl)) i) ∷ read-alike V W ss (λ n k. h n (inr k)) i
 
-length-nodes : (ss : List Signal) → length (nodes_in ss) ≡ length ss
+pub length-nodes : (ss : List Signal) → length (nodes_in ss) ≡ length ss
 length-nodes [] = refl
 length-nodes (s ∷ ss) = ap suc (length-nodes ss)
 

@@ -12,3 +12,4 @@ pub mod LutLaws
 pub mod TablingLemmas
 pub mod GateRows
 pub mod LutKeys
+pub mod LutOnly

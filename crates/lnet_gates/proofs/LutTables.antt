@@ -58,7 +58,7 @@ read-nodes : (V : ℕ → Bool) (ns : List ℕ) → map (read V) (map (signal_of
 read-nodes V [] = refl
 read-nodes V (n ∷ ns) = ap (λ r. V n ∷ r) (read-nodes V ns)
 
-flip-twice : (c x : Bool) → flip c (flip c x) ≡ x
+pub flip-twice : (c x : Bool) → flip c (flip c x) ≡ x
 flip-twice true x = not-not x
 flip-twice false x = refl
 

@@ -120,3 +120,8 @@ pub record IsTableKey (k : KeyValue) (phase : Bool) : Type 0 where
   pub two : 2 ≤ length k.fanins
   pub operands : AscendsFrom 1 k.fanins
   pub needed : (n : ℕ) → IsNamedBy n k.fanins → changes_with (function_of (keyed_gate k phase)) (bound_of k.fanins) n ≡ true
+
+-- a proper form: a signal, or a key of a look-up table
+abbrev pub IsLutForm : Normal → Type 0
+IsLutForm (Is s) = Unit
+IsLutForm (Gate k phase) = IsTableKey k phase

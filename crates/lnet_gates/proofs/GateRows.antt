@@ -1,5 +1,5 @@
 -- Gates at the rows of nodes: their values by tables of operations, and the nodes that they change with.
-use Rattle.std.proofs.Common.{◌≡◌, ◌≢◌, ℕ, zero, suc, ◌+◌, ◌*◌, ◌/◌, ◌%◌, ◌^◌, ◌<◌, ◌≤◌, Bool, true, false, cond, not, ◌⊎◌, List, [], ◌∷◌, map, length, eqb, nat_eq, bit_and, pow_mono, refl, sym, ap, subst, ◌∙◌, inl, inr, arith}
+use Rattle.std.proofs.Common.{◌≡◌, ◌≢◌, ℕ, suc, ◌+◌, ◌*◌, ◌/◌, ◌%◌, ◌^◌, ◌<◌, ◌≤◌, Bool, true, false, not, List, [], ◌∷◌, map, length, eqb, nat_eq, bit_and, pow_mono, refl, sym, ap, subst, ◌∙◌, inl, inr, arith}
 use mathlib.Core.Bool.{beq}
 use Rattle.std.specs.Int.{bit_at}
 use Rattle.std.proofs.lemmas.List.{length-map}
@@ -9,7 +9,6 @@ use Rattle.lnet_tables.proofs.RowNumbers.{number_below, number_more}
 use Rattle.lnet_gates.specs.declared.signal.Signal.{Signal}
 use Rattle.lnet_gates.specs.declared.gate.Op.{Op}
 use Rattle.lnet_gates.specs.declared.gate.Op.TheVariants.{And, Xor, Maj, Lut}
-use Rattle.lnet_gates.specs.declared.normal.Normal.{Normal}
 use Rattle.lnet_gates.specs.declared.normal.Normal.TheVariants.{Gate}
 use Rattle.lnet_gates.specs.Gates.{GateValue, flip, row_of, operate}
 use Rattle.lnet_gates.specs.Operands.{read}
@@ -91,7 +90,7 @@ read-alike : (V W : ℕ → Bool) (ss : List Signal) → ((n : ℕ) → IsIn n (
 read-alike V W [] h = refl
 read-alike V W (s ∷ ss) h = λ i. flip s.complement (grounded-same V W s.node.0 (h s.node.0 (inl refl)) i) ∷ read-alike V W ss (λ n k. h n (inr k)) i
 
-length-nodes : (ss : List Signal) → length (nodes_in ss) ≡ length ss
+pub length-nodes : (ss : List Signal) → length (nodes_in ss) ≡ length ss
 length-nodes [] = refl
 length-nodes (s ∷ ss) = ap suc (length-nodes ss)
 

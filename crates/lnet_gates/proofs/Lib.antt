@@ -6,3 +6,4 @@ pub mod Underway
 pub mod TablingLemmas
 pub mod GateRows
 pub mod LutKeys
+pub mod LutOnly

@@ -1,18 +1,17 @@
 -- The keys of look-up tables: their tables and their operands.
-use Rattle.std.proofs.Common.{◌≡◌, ◌≢◌, ℕ, zero, suc, ◌/◌, ◌%◌, ◌^◌, ◌<◌, ◌≤◌, Bool, true, false, cond, ◌⊎◌, List, [], ◌∷◌, map, length, eqb, refl, sym, ap, subst, ◌∙◌, inl, inr, pow_pos, arith}
+use Rattle.std.proofs.Common.{◌≡◌, ℕ, zero, suc, ◌^◌, ◌<◌, ◌≤◌, Bool, false, List, [], ◌∷◌, map, length, eqb, refl, sym, ap, subst, ◌∙◌, inl, pow_pos, arith}
 use Rattle.std.proofs.lemmas.List.{length-map}
 use Rattle.std.specs.Int.{bit_at}
 use Rattle.lnet_tables.specs.Bits.{bit_of}
 use Rattle.lnet_tables.specs.Inverse.{bit_inside}
 use Rattle.lnet_tables.proofs.RowNumbers.{number_below}
-use Rattle.lnet_gates.specs.declared.signal.Signal.{Signal}
 use Rattle.lnet_gates.specs.declared.gate.Op.TheVariants.{Lut}
 use Rattle.lnet_gates.specs.declared.normal.Normal.{Normal}
 use Rattle.lnet_gates.specs.declared.normal.Normal.TheVariants.{Is, Gate}
 use Rattle.lnet_gates.specs.Gates.{GateValue, KeyValue, flip}
 use Rattle.lnet_gates.specs.Operands.{IsNamedBy}
 use Rattle.lnet_gates.specs.NormalLaws.{keyed_gate, gate_reading}
-use Rattle.lnet_gates.specs.LutForms.{IsLutGate, AscendsFrom, IsTableKey, grounded, put, all_false, changes_with, support, assigned, lowest_bits, table_of, signal_of, form_over, function_of, bound_of, normal_lut}
+use Rattle.lnet_gates.specs.LutForms.{IsLutGate, AscendsFrom, IsTableKey, IsLutForm, grounded, put, all_false, changes_with, support, assigned, lowest_bits, table_of, signal_of, form_over, function_of, bound_of, normal_lut}
 use Rattle.lnet_gates.specs.Lawful.OperandLemmas.{by_test, untrue, eqb-same}
 use Rattle.lnet_gates.specs.Lawful.NodeFunctions.{IsIn, flip-self, unchanged, in-passes}
 use Rattle.lnet_gates.specs.Lawful.LutLaws.{stable, named-signals}
@@ -62,7 +61,7 @@ shape-over f (n ∷ m ∷ ns) = (
 )
 
 -- a key's table has its row 0 false, and its operands are those that it changes with, plain and ascending
-pub table-keys : (g : GateValue) (k : KeyValue) (phase : Bool) → IsLutGate g → normal_lut g ≡ Gate k phase → IsTableKey k phase
+table-keys : (g : GateValue) (k : KeyValue) (phase : Bool) → IsLutGate g → normal_lut g ≡ Gate k phase → IsTableKey k phase
 table-keys g k phase of is_key = record {
   table = shape.0;
   op_is = shape.1;
@@ -81,3 +80,11 @@ table-keys g k phase of is_key = record {
 
     shape : ShapeOf nodes (Gate k phase)
     shape = subst (ShapeOf nodes) (stable g k phase of is_key) (shape-over (function_of own) nodes)
+
+-- a gate's normal form is proper
+pub proper-form : (g : GateValue) → IsLutGate g → IsLutForm (normal_lut g)
+proper-form g of = either (normal_lut g) refl
+  where
+    either : (n : Normal) → normal_lut g ≡ n → IsLutForm n
+    either (Is s) e = tt
+    either (Gate k phase) e = table-keys g k phase of e

@@ -1,13 +1,12 @@
 -- Tables made row by row: the nodes that are kept in order, the rows of nodes, and what the two give together.
-use Rattle.std.proofs.Common.{◌≡◌, ◌≢◌, ℕ, zero, suc, ◌+◌, ◌*◌, ◌/◌, ◌%◌, ◌^◌, ◌<◌, ◌≤◌, Bool, true, false, cond, ◌||◌, ◌⊎◌, List, [], ◌∷◌, ◌++◌, map, length, get_or, add-one, take-suc, take_all, length-take-le, take, drop, insert, eqb, ltb, refl, sym, ap, subst, ◌∙◌, inl, inr, arith}
-use Rattle.std.proofs.lemmas.Bool.Decides.{eqb_tells, nat_tests}
-use Rattle.std.proofs.lemmas.Bool.{cases_lt}
+use Rattle.std.proofs.Common.{◌≡◌, ◌≢◌, ℕ, zero, suc, ◌+◌, ◌<◌, ◌≤◌, Bool, true, false, cond, ◌⊎◌, List, [], ◌∷◌, ◌++◌, map, length, get_or, add-one, take-suc, take_all, length-take-le, take, drop, insert, eqb, ltb, refl, sym, ap, subst, ◌∙◌, inl, inr, arith}
+use Rattle.std.proofs.lemmas.Bool.Decides.{nat_tests}
 use Rattle.lnet_gates.specs.declared.signal.Signal.{Signal}
 use Rattle.lnet_gates.specs.Operands.{plain, IsNamedBy}
 use Rattle.lnet_gates.specs.LutForms.{passing, signal_of}
 use Rattle.lnet_gates.specs.Tabling.{place_of, with_signal}
 use Rattle.lnet_gates.specs.Lawful.OperandLemmas.{by_test, untrue, eqb-same, eqb-self, cond-true, cond-false}
-use Rattle.lnet_gates.specs.Lawful.NodeFunctions.{IsIn, by_node, in-passing, in-passes, in-split}
+use Rattle.lnet_gates.specs.Lawful.NodeFunctions.{IsIn, in-passing, in-passes, in-split}
 
 -- ---- ascending numbers
 

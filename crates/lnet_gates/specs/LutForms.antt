@@ -1,7 +1,7 @@
 -- The normal form of a gate in a network of look-up tables: the table of its function over the nodes that the function
 -- changes with, ascending. Source: canonical truth tables over the functional support, R. E. Bryant, "Graph-Based Algorithms
 -- for Boolean Function Manipulation", IEEE Transactions on Computers 35 (1986), section 2.
-use Rattle.std.specs.Prelude.{◌≡◌, ℕ, zero, suc, ◌*◌, ◌/◌, ◌%◌, ◌^◌, ◌<◌, ◌≤◌, Bool, false, true, cond, ◌||◌, List, [], ◌∷◌, ◌++◌, map, length, eqb, max}
+use Rattle.std.specs.Prelude.{◌≡◌, ℕ, zero, suc, ◌/◌, ◌%◌, ◌^◌, ◌<◌, ◌≤◌, Bool, false, true, cond, ◌||◌, List, [], ◌∷◌, ◌++◌, map, length, eqb, max}
 use Rattle.std.specs.Int.{bit_at}
 use Rattle.lnet_tables.specs.Bits.{number_by}
 use Rattle.lnet_gates.specs.declared.signal.Signal.{Signal}
@@ -120,3 +120,8 @@ pub record IsTableKey (k : KeyValue) (phase : Bool) : Type 0 where
   pub two : 2 ≤ length k.fanins
   pub operands : AscendsFrom 1 k.fanins
   pub needed : (n : ℕ) → IsNamedBy n k.fanins → changes_with (function_of (keyed_gate k phase)) (bound_of k.fanins) n ≡ true
+
+-- a proper form: a signal, or a key of a look-up table
+abbrev pub IsLutForm : Normal → Type 0
+IsLutForm (Is s) = Unit
+IsLutForm (Gate k phase) = IsTableKey k phase

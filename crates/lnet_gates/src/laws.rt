@@ -2,11 +2,12 @@
 
 ghost use Rattle.std.specs.Prelude.{◌≡◌, ℕ, ◌&&◌, ◌||◌, Bool, true, false, not, [], ◌∷◌};
 ghost use Rattle.lnet_gates.specs.declared.gate.Op.TheVariants.{And, Xor, Maj, Lut};
+ghost use Rattle.lnet_gates.specs.declared.normal.Normal.{Normal};
 ghost use Rattle.lnet_gates.specs.declared.normal.Normal.TheVariants.{Gate};
 ghost use Rattle.lnet_gates.specs.Gates.{GateValue, KeyValue, apply};
 ghost use Rattle.lnet_gates.specs.NormalForms.{normal_and, normal_xor, normal_maj};
-ghost use Rattle.lnet_gates.specs.NormalLaws.{NormalLaws, IsGateOf, gate_reading};
-ghost use Rattle.lnet_gates.specs.LutForms.{IsLutGate, IsTableKey, normal_lut};
+ghost use Rattle.lnet_gates.specs.NormalLaws.{NormalLaws, IsGateOf, gate_reading, form_reading};
+ghost use Rattle.lnet_gates.specs.LutForms.{IsLutGate, IsLutForm, normal_lut};
 
 /// An And is both of two, and a Xor is exactly one of two; a phase complements the value.
 pub fn and_xor_rows()
@@ -47,11 +48,14 @@ pub fn xor_forms_are_lawful()
 
 /// The normal form of a gate of look-up tables keeps values, names, itself and replacement. The gates of two fanins with And
 /// or Xor, of three with Maj, and of up to six with a table are native.
-/// Gates of one function have one normal form, and a key's table has row 0 false and no operand without influence.
+/// Gates of one function have one normal form. A key of it has a table whose row 0 is false, over two or more plain operands,
+/// ascending, none of them constant and none without influence; and whatever form is so and has a gate's value is the gate's
+/// normal form, by whatever steps it was found.
 pub fn lut_forms_are_lawful()
     ensures laws { NormalLaws IsLutGate normal_lut }
     ensures canonical { (g h : GateValue) → ((V : ℕ → Bool) → V 0 ≡ false → gate_reading V g ≡ gate_reading V h) → normal_lut g ≡ normal_lut h }
-    ensures keys { (g : GateValue) (k : KeyValue) (phase : Bool) → IsLutGate g → normal_lut g ≡ Gate k phase → IsTableKey k phase }
+    ensures proper { (g : GateValue) → IsLutGate g → IsLutForm (normal_lut g) }
+    ensures only { (g : GateValue) (n : Normal) → IsLutForm n → ((V : ℕ → Bool) → V 0 ≡ false → form_reading V n ≡ gate_reading V g) → normal_lut g ≡ n }
 {}
 
 /// The normal form of Maj keeps values, names, itself and replacement.

@@ -1,5 +1,5 @@
 -- In a network of any kind a key of an And has the phase of the gate whose form it is.
-use Rattle.std.proofs.Common.{◌≡◌, ℕ, Bool, true, false, List, [], ◌∷◌, length, refl, sym, ap, ◌∙◌, subst}
+use Rattle.std.proofs.Common.{◌≡◌, ℕ, Bool, true, List, [], ◌∷◌, length, refl, sym, ap, ◌∙◌, subst}
 use Rattle.std.proofs.lemmas.Bool.{false≢true}
 use Rattle.lnet_gates.specs.declared.gate.Kind.{Kind}
 use Rattle.lnet_gates.specs.declared.gate.Kind.TheVariants.{Aig, Xag, Mig, Klut}
@@ -8,8 +8,8 @@ use Rattle.lnet_gates.specs.declared.gate.Op.TheVariants.{And, Xor, Maj, Lut}
 use Rattle.lnet_gates.specs.declared.normal.Normal.{Normal}
 use Rattle.lnet_gates.specs.declared.normal.Normal.TheVariants.{Is, Gate}
 use Rattle.lnet_gates.specs.Gates.{GateValue, KeyValue}
-use Rattle.lnet_gates.specs.NormalForms.{normal_and, normal_xor, normal_maj}
-use Rattle.lnet_gates.specs.NormalLaws.{IsGateOf, NormalLaws, IsNativeForm, AndsKeepPhase}
+use Rattle.lnet_gates.specs.NormalForms.{normal_xor, normal_maj}
+use Rattle.lnet_gates.specs.NormalLaws.{IsGateOf, IsNativeForm, AndsKeepPhase}
 use Rattle.lnet_gates.specs.Plans.{is_native, Takes}
 use Rattle.lnet_gates.specs.LutForms.{normal_lut, form_over, function_of, bound_of, support}
 use Rattle.lnet_gates.specs.Natives.{IsNativeGate, normal_by_op}

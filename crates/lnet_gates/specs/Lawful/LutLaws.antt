@@ -1,5 +1,5 @@
 -- Look-up tables: their normal forms keep values, names, themselves and replacement.
-use Rattle.std.proofs.Common.{◌≡◌, ◌≢◌, ℕ, zero, suc, ◌+◌, ◌^◌, ◌<◌, ◌≤◌, Bool, true, false, cond, not, ◌&&◌, ◌⊎◌, List, [], ◌∷◌, ◌++◌, map, length, eqb, max, refl, sym, ap, subst, ◌∙◌, inl, inr, pow_mono, lt_of_lt_of_le, length-append, arith}
+use Rattle.std.proofs.Common.{◌≡◌, ◌≢◌, ℕ, zero, suc, ◌+◌, ◌^◌, ◌<◌, ◌≤◌, Bool, true, false, cond, not, ◌&&◌, ◌⊎◌, List, [], ◌∷◌, map, length, eqb, refl, sym, ap, subst, ◌∙◌, inl, inr, pow_mono, lt_of_lt_of_le, length-append, arith}
 use Rattle.std.proofs.lemmas.List.{length-map}
 use Rattle.lnet_tables.proofs.RowNumbers.{number_below}
 use Rattle.lnet_gates.specs.declared.signal.Signal.{Signal}
@@ -11,10 +11,10 @@ use Rattle.lnet_gates.specs.Gates.{GateValue, KeyValue, flip, operate}
 use Rattle.lnet_gates.specs.Operands.{constant, read, moved, IsNamedBy}
 use Rattle.lnet_gates.specs.NormalForms.{carried}
 use Rattle.lnet_gates.specs.NormalLaws.{NormalLaws, NamesOnly, IsNativeForm, form_reading, gate_reading, formed_again, keyed_gate, replaced_in, rephased}
-use Rattle.lnet_gates.specs.LutForms.{HasCount, IsLutGate, grounded, put, changes_with, passing, support, assigned, lowest_bits, table_of, all_false, signal_of, form_over, function_form, function_of, bound_of, normal_lut}
-use Rattle.lnet_gates.specs.Lawful.OperandLemmas.{by_test, untrue, eqb-self, eqb-apart, cond-false, flip-flip, flip-comm, read-flipped}
+use Rattle.lnet_gates.specs.LutForms.{HasCount, IsLutGate, grounded, put, changes_with, passing, support, assigned, lowest_bits, all_false, signal_of, form_over, function_form, function_of, bound_of, normal_lut}
+use Rattle.lnet_gates.specs.Lawful.OperandLemmas.{by_test, untrue, eqb-self, eqb-apart, flip-flip, read-flipped}
 use Rattle.lnet_gates.specs.Lawful.FormLaws.{in_place, moved-in_place}
-use Rattle.lnet_gates.specs.Lawful.NodeFunctions.{ReadsBelow, Ignores, IsIn, by_node, put-other, unchanged, in-passes, passing-none}
+use Rattle.lnet_gates.specs.Lawful.NodeFunctions.{ReadsBelow, IsIn, by_node, put-other, unchanged, in-passes, passing-none}
 use Rattle.lnet_gates.specs.Lawful.LutTables.{form-value, form-bound, literal-form, form-flipped}
 
 -- ---- the nodes that a gate reads

@@ -1,20 +1,19 @@
 -- Tables over nodes: what their rows are, and the value and the laws of the forms that are made of them.
-use Rattle.std.proofs.Common.{◌≡◌, ◌≢◌, ℕ, zero, suc, ◌+◌, ◌*◌, ◌/◌, ◌%◌, ◌^◌, ◌<◌, ◌≤◌, Bool, true, false, cond, ◌⊎◌, List, [], ◌∷◌, map, length, eqb, refl, sym, ap, subst, ◌∙◌, inl, inr, pow-suc, arith}
+use Rattle.std.proofs.Common.{◌≡◌, ◌≢◌, ℕ, zero, suc, ◌+◌, ◌*◌, ◌/◌, ◌%◌, ◌^◌, ◌<◌, Bool, true, false, cond, List, [], ◌∷◌, map, length, eqb, refl, sym, ap, subst, ◌∙◌, inl, pow-suc, arith}
 use Rattle.std.proofs.lemmas.List.{length-map}
 use Rattle.std.specs.Int.{bit_at}
 use Rattle.lnet_tables.specs.Bits.{number_by, bit_of}
 use Rattle.lnet_tables.specs.Inverse.{bit_inside}
 use Rattle.lnet_gates.specs.declared.signal.Signal.{Signal}
 use Rattle.lnet_gates.specs.declared.gate.Op.TheVariants.{Lut}
-use Rattle.lnet_gates.specs.declared.normal.Normal.{Normal}
 use Rattle.lnet_gates.specs.declared.normal.Normal.TheVariants.{Is, Gate}
 use Rattle.lnet_gates.specs.Gates.{flip, row_of}
 use Rattle.lnet_gates.specs.Operands.{constant, read}
 use Rattle.lnet_gates.specs.NormalForms.{carried}
 use Rattle.lnet_gates.specs.NormalLaws.{form_reading}
 use Rattle.lnet_gates.specs.LutForms.{grounded, put, all_false, holds_somewhere, changes_with, passing, support, assigned, lowest_bits, table_of, signal_of, form_over, function_form}
-use Rattle.lnet_gates.specs.Lawful.OperandLemmas.{by_test, untrue, eqb-same, flip-flip, flip-comm, not-not, read-constant}
-use Rattle.lnet_gates.specs.Lawful.NodeFunctions.{ReadsBelow, Ignores, IsIn, by_node, not-false, put-here, change-is, unchanged, ignores, changes-below, in-passes, passing-none, passing-one, support-bound, on-support}
+use Rattle.lnet_gates.specs.Lawful.OperandLemmas.{by_test, eqb-same, flip-comm, not-not, read-constant}
+use Rattle.lnet_gates.specs.Lawful.NodeFunctions.{ReadsBelow, Ignores, IsIn, not-false, put-here, change-is, unchanged, ignores, changes-below, in-passes, passing-none, passing-one, support-bound, on-support}
 
 -- ---- rows
 
@@ -58,7 +57,7 @@ read-nodes : (V : ℕ → Bool) (ns : List ℕ) → map (read V) (map (signal_of
 read-nodes V [] = refl
 read-nodes V (n ∷ ns) = ap (λ r. V n ∷ r) (read-nodes V ns)
 
-flip-twice : (c x : Bool) → flip c (flip c x) ≡ x
+pub flip-twice : (c x : Bool) → flip c (flip c x) ≡ x
 flip-twice true x = not-not x
 flip-twice false x = refl
 

@@ -1,4 +1,4 @@
-use Rattle.std.proofs.Common.{◌≡◌, ◌≢◌, ◌^◌, ◌==◌, ℕ, Bool, true, false, length, sym, ap, ◌∙◌, arith}
+use Rattle.std.proofs.Common.{◌≡◌, ◌^◌, ◌==◌, true, false, length, ap, ◌∙◌}
 use Rattle.lnet_tables.specs.Bits.{number_by}
 use Rattle.lnet_gates.specs.Gates.{flip}
 use Rattle.lnet_gates.specs.Tabling.{given_row}

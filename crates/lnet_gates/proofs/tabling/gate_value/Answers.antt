@@ -1,4 +1,4 @@
-use Rattle.std.proofs.Common.{◌≡◌, ◌≤◌, ◌<◌, ◌^◌, ℕ, map, sym, ap, ◌∙◌, length, pow_mono, arith}
+use Rattle.std.proofs.Common.{◌≡◌, ◌≤◌, ◌<◌, ◌^◌, map, ap, ◌∙◌, length, pow_mono, arith}
 use Rattle.lnet_gates.specs.Gates.{GateValue, row_of}
 use Rattle.lnet_gates.specs.Operands.{read}
 use Rattle.lnet_gates.specs.LutForms.{grounded}

@@ -1,4 +1,4 @@
-use Rattle.std.proofs.Common.{◌≡◌, ◌≤◌, ◌<◌, ◌^◌, ◌*◌, ◌+◌, ◌%◌, ℕ, Bool, length, sym, ap, subst, ◌∙◌, arith, pow_mono}
+use Rattle.std.proofs.Common.{◌≡◌, ◌≤◌, ◌<◌, ◌^◌, ◌*◌, ◌%◌, ℕ, Bool, length, sym, ap, ◌∙◌, arith, pow_mono}
 use Rattle.std.proofs.lemmas.Nat.{one_shl}
 use Rattle.lnet_gates.specs.Gates.{flip}
 use Rattle.lnet_gates.specs.LutForms.{function_of}

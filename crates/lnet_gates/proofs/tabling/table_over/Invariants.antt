@@ -1,4 +1,4 @@
-use Rattle.std.proofs.Common.{◌≡◌, ℕ}
+use Rattle.std.proofs.Common.{◌≡◌}
 use Rattle.lnet_tables.specs.Bits.{number_by}
 use Rattle.lnet_gates.specs.Gates.{flip}
 use Rattle.lnet_gates.specs.LutForms.{function_of}

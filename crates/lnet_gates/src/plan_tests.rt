@@ -5,7 +5,7 @@ ghost use Rattle.lnet_gates.specs.Operands.{constant};
 ghost use Rattle.lnet_gates.specs.Plans.{Takes};
 ghost use Rattle.lnet_gates.specs.Natives.{IsNativeGate};
 
-use crate::{AigGates, Gate, Gates, Kind, MigGates, Normal, Op, Plan, Signal, XagGates};
+use crate::{AigGates, Gate, Gates, Kind, KlutGates, MigGates, Normal, Op, Plan, Signal, XagGates};
 use arrayvec::ArrayVec;
 use lnet_tables::{Lit, Step, StepOp};
 use std::process::Abort;
@@ -92,5 +92,7 @@ fn kinds_form_gates(rt: HostRuntime) {
     let one = formed::<XagGates>(&with_true(Op::Xor));
     assert!(rt; matches!(one.0, Normal::Is(signal) if signal == Signal::constant(true)));
     assert!(rt; one.1);
+    let table = formed::<KlutGates>(&with_true(Op::Lut(0x2)));
+    assert!(rt; matches!(table.0, Normal::Is(signal) if signal == Signal::constant(true)));
     assert!(rt; matches!(MigGates::plan(&Op::Maj, 3), Plan::Native));
 }

@@ -21,12 +21,12 @@ pub ordered_rows : (t : Transform) (a : Rows) (w : ℕ) (p : List ℕ) → IsTra
     → permute_rows (by_rows 4 (is_set w)) p ≡ by_rows 4 (λ x. row a (source_of t x))
 ordered_rows t a w p h flips order =
     same_rows 4 _ _ (λ x lt.
-        let m : moved x p 4 ≡ moved x t.order 4 = same_number _ _ 4 (λ i l. ap (is_set x) (order i l)) in
-        row_inside 4 (is_set w) (moved x p 4) (number_below _ 4)
-        ∙ ap (is_set w) m
-        ∙ flips (moved x t.order 4) (number_below _ 4)
-        ∙ set_inside (row a) 16 (turned t.flips (moved x t.order 4)) (turned_below _ _)
-        ∙ ap (row a) (sym (source_is t x ∙ split_row t.order t.flips x h.order h.flips lt)))
+    let m : moved x p 4 ≡ moved x t.order 4 = same_number _ _ 4 (λ i l. ap (is_set x) (order i l)) in
+    row_inside 4 (is_set w) (moved x p 4) (number_below _ 4)
+    ∙ ap (is_set w) m
+    ∙ flips (moved x t.order 4) (number_below _ 4)
+    ∙ set_inside (row a) 16 (turned t.flips (moved x t.order 4)) (turned_below _ _)
+    ∙ ap (row a) (sym (source_is t x ∙ split_row t.order t.flips x h.order h.flips lt)))
 
 pub padded_same : (order p : List ℕ) → length order ≡ 4 → p ≡ order ++ replicate 6 0 → (i : ℕ) → i < 4 → get_or p i 0 ≡ get_or order i 0
 padded_same order p long e i lt = ap (λ (l : List ℕ). get_or l i 0) e ∙ get_or_append_left order (replicate 6 0) 0 i (omega arith)

@@ -33,9 +33,9 @@ among_more images given i least n lt e h =
     elim (cases_lt (min (get_or images i 0) (65535 - get_or images i 0)) least) [
       | inr g ↦ (let z : n ≡ least = omega arith in rw z h)
       | inl l ↦ elim (cases_lt (65535 - get_or images i 0) (get_or images i 0)) [
-          | inl c ↦ (let z : n ≡ 65535 - get_or images i 0 = omega arith in Image i true lt (z ∙ sym (choice_complement images i)))
-          | inr p ↦ (let z : n ≡ get_or images i 0 = omega arith in Image i false lt (z ∙ sym (choice_plain images i)))
-        ]
+        | inl c ↦ (let z : n ≡ 65535 - get_or images i 0 = omega arith in Image i true lt (z ∙ sym (choice_complement images i)))
+        | inr p ↦ (let z : n ≡ get_or images i 0 = omega arith in Image i false lt (z ∙ sym (choice_plain images i)))
+      ]
     ]
 
 -- ---- the first

@@ -36,8 +36,8 @@ told_more old new order word i h v o li p few lv ve t kept more = record {
         ap (λ k. is_set (get_or new k 0) x) e ∙ more (f - h) x (omega arith) lx
         ∙ t.at (f - h) (with_bit x v (not (is_set x v))) (omega arith) (flip_below x v lx lv)
         ∙ ap (is_set word) (ap (λ k. source_at order (f - h) (with_bit x k (not (is_set x k)))) ve
-            ∙ doubled_row order i (f - h) x o li b (omega arith) lx
-            ∙ ap (λ k. source_at order ((f - h) + k) x) (sym p) ∙ ap (λ k. source_at order k x) (sym e))
+        ∙ doubled_row order i (f - h) x o li b (omega arith) lx
+        ∙ ap (λ k. source_at order ((f - h) + k) x) (sym p) ∙ ap (λ k. source_at order k x) (sym e))
   ];
 }
 

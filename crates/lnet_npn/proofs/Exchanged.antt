@@ -82,6 +82,6 @@ exchanged_at word e x ok lt =
     set_xor (bit_xor word c) (c * 2 ^ d % 65536) x
     ∙ ap (λ b. bit_xor2 b (is_set (c * 2 ^ d % 65536) x)) (set_xor word c x ∙ ap (λ b. bit_xor2 (is_set word x) b) (changed_at word e.rows d x))
     ∙ ap (λ b. bit_xor2 (bit_xor2 (is_set word x) (bit_xor2 (is_set word (x + d)) (is_set word x) && is_set e.rows x)) b)
-        (set_shl c d x lt ∙ ap (λ b. leb d x && b) (changed_at word e.rows d (x - d)))
+    (set_shl c d x lt ∙ ap (λ b. leb d x && b) (changed_at word e.rows d (x - d)))
     ∙ pick word x (x + d) (x - d) (is_set e.rows x) (leb d x) (is_set e.rows (x - d)) (is_set word ((x - d) + d)) (ok.apart x lt)
-        (λ t. ap (is_set word) (let h : d ≤ x = leb-true d x t in omega arith))
+    (λ t. ap (is_set word) (let h : d ≤ x = leb-true d x t in omega arith))

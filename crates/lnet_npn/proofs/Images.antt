@@ -79,14 +79,14 @@ pub image_back : (t : Transform) (n : ℕ) → IsTransform t → n < 2 ^ 16 → 
 unfolding image_of
 image_back t n h small =
     sym (told_by_bits n 16 _ small (λ x lt.
-        sym (ap (bit_xor2 t.out) (set_inside _ 16 (source_of (inverse_of t) x) (source_below (inverse_of t) x))
-            ∙ twice t.out _ ∙ ap (is_set n) (inverse_row t x h lt))))
+    sym (ap (bit_xor2 t.out) (set_inside _ 16 (source_of (inverse_of t) x) (source_below (inverse_of t) x))
+    ∙ twice t.out _ ∙ ap (is_set n) (inverse_row t x h lt))))
 
 pub transformed_back : (t : Transform) (a : Rows) → IsTransform t → a.vars ≡ 4 → length a.bits ≡ 16 → transformed (inverse_of t) (transformed t a) ≡ a
 transformed_back t a h v long =
     same_rows 4 _ (row a) (λ x lt.
-        ap (bit_xor2 t.out) (row_inside 4 _ (source_of (inverse_of t) x) (source_below (inverse_of t) x))
-        ∙ twice t.out _ ∙ ap (row a) (inverse_row t x h lt))
+    ap (bit_xor2 t.out) (row_inside 4 _ (source_of (inverse_of t) x) (source_below (inverse_of t) x))
+    ∙ twice t.out _ ∙ ap (row a) (inverse_row t x h lt))
     ∙ ap (λ n. by_rows n (row a)) (sym v) ∙ sym (eta_rows a (long ∙ ap (λ n. 2 ^ n) (sym v)))
 
 -- ---- tables and their numbers
@@ -94,7 +94,7 @@ pub number_image : (t : Transform) (a : Rows) → number_of (transformed t a) �
 unfolding image_of
 number_image t a =
     same_number _ _ 16 (λ x lt.
-        row_inside 4 _ x lt ∙ ap (bit_xor2 t.out) (sym (set_inside (row a) 16 (source_of t x) (source_below t x))))
+    row_inside 4 _ x lt ∙ ap (bit_xor2 t.out) (sym (set_inside (row a) 16 (source_of t x) (source_below t x))))
 
 pub table_image : (t : Transform) (a : Rows) → by_rows 4 (is_set (image_of t (number_of a))) ≡ transformed t a
 unfolding image_of

@@ -10,3 +10,5 @@ pub mod Doubled
 pub mod Chosen
 pub mod Rewired
 pub mod Ranked
+pub mod Classes
+pub mod Examples

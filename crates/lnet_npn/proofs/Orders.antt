@@ -106,12 +106,12 @@ order_below o h =
     let s = and_parts _ _ r.1 in
     let t = and_parts _ _ s.1 in
     record { long = eqb-true _ _ p.0; at = go (ltb-true _ _ r.0) (ltb-true _ _ s.0) (ltb-true _ _ t.0) (ltb-true _ _ t.1) } where
-  go : get_or o 0 0 < 4 → get_or o 1 0 < 4 → get_or o 2 0 < 4 → get_or o 3 0 < 4 → (i : ℕ) → i < 4 → get_or o i 0 < 4
-  go a b c d zero lt = a
-  go a b c d (suc zero) lt = b
-  go a b c d (suc (suc zero)) lt = c
-  go a b c d (suc (suc (suc zero))) lt = d
-  go a b c d (suc (suc (suc (suc i)))) lt = absurd (omega arith)
+      go : get_or o 0 0 < 4 → get_or o 1 0 < 4 → get_or o 2 0 < 4 → get_or o 3 0 < 4 → (i : ℕ) → i < 4 → get_or o i 0 < 4
+      go a b c d zero lt = a
+      go a b c d (suc zero) lt = b
+      go a b c d (suc (suc zero)) lt = c
+      go a b c d (suc (suc (suc zero))) lt = d
+      go a b c d (suc (suc (suc (suc i)))) lt = absurd (omega arith)
 
 find_order : (o p : List ℕ) → o ≡ p → is_order o ≡ true → cond (is_order p) (listed (orders_of ARRANGEMENTS) p) true ≡ true → listed (orders_of ARRANGEMENTS) o ≡ true
 find_order o p e y h = rw e (rw (rw e at y) at h)

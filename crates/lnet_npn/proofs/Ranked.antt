@@ -109,13 +109,13 @@ first_of_all images k least word t lk e h seen u lawful lt z =
     elim (cases_lt j k) [
       | inl l ↦ seen j u.flips u.out l fu p
       | inr g ↦ elim (cases_lt k j) [
-          | inl past ↦ absurd (omega (arith, ascending k j past lj))
-          | inr at ↦
-              let y : j ≡ k = omega arith in
-              let r : order_rank (order_at j) ≡ order_rank (order_at k) = ap (λ i. order_rank (order_at i)) y in
-              h.first u.flips u.out fu (omega arith)
-              (choice_is images (order_at k) u.flips least u.out (e u.flips fu) ∙ ap (λ i. image_at (order_at i) u.flips u.out least) (sym y) ∙ p)
-        ]
+        | inl past ↦ absurd (omega (arith, ascending k j past lj))
+        | inr at ↦
+            let y : j ≡ k = omega arith in
+            let r : order_rank (order_at j) ≡ order_rank (order_at k) = ap (λ i. order_rank (order_at i)) y in
+            h.first u.flips u.out fu (omega arith)
+            (choice_is images (order_at k) u.flips least u.out (e u.flips fu) ∙ ap (λ i. image_at (order_at i) u.flips u.out least) (sym y) ∙ p)
+      ]
     ]
 
 -- ---- the start
@@ -133,9 +133,13 @@ unchanged_order = refl
 
 pub unchanged_makes : (word : ℕ) → word < 2 ^ 16 → (t : Transform) × (IsTransform t × (word ≡ image_of t word))
 unfolding unchanged image_of
-unchanged_makes word small =
-    (unchanged, (record { order = unchanged_order; flips = lit< tt },
-        told_by_bits word 16 _ small (λ x lt. ap (is_set word) (sym (eqb-true _ _ (agree_below_at (λ x. eqb (source_of unchanged x) x) (λ x. true) 16 x unchanged_rows lt))))))
+unchanged_makes word small = (
+  unchanged,
+  (
+    record { order = unchanged_order; flips = lit< tt },
+    told_by_bits word 16 _ small (λ x lt. ap (is_set word) (sym (eqb-true _ _ (agree_below_at (λ x. eqb (source_of unchanged x) x) (λ x. true) 16 x unchanged_rows lt)))),
+  ),
+)
 
 -- ---- tables
 pub way_back : (least word : ℕ) → word < 2 ^ 16 → (t : Transform) × (IsTransform t × (least ≡ image_of t word)) → (t : Transform) × (IsTransform t × (image_of t least ≡ word))

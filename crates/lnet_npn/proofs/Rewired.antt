@@ -132,9 +132,9 @@ push_same new old v p long h =
     elim (cases_lt p (length old)) [
       | inl lt ↦ get_or_append_left new (v ∷ []) false p (omega arith) ∙ h ∙ sym (get_or_append_left old (v ∷ []) false p lt)
       | inr ge ↦ elim (cases_lt (length old) p) [
-          | inl past ↦ get_or_past (new ++ v ∷ []) p false (omega (arith, length_push new v)) ∙ sym (get_or_past (old ++ v ∷ []) p false (omega (arith, length_push old v)))
-          | inr at ↦ get_or_push new v false p (omega arith) ∙ sym (get_or_push old v false p (omega arith))
-        ]
+        | inl past ↦ get_or_past (new ++ v ∷ []) p false (omega (arith, length_push new v)) ∙ sym (get_or_past (old ++ v ∷ []) p false (omega (arith, length_push old v)))
+        | inr at ↦ get_or_push new v false p (omega arith) ∙ sym (get_or_push old v false p (omega arith))
+      ]
     ]
 
 matches_push : (t : Transform) (new old : List Bool) (v : Bool) → IsTransform t → Matches t new old → Matches t (new ++ v ∷ []) (old ++ v ∷ [])
@@ -169,9 +169,9 @@ leaf_other x y p e =
     elim (cases_lt p 1) [
       | inl lt ↦ let z : p ≡ 0 = omega arith in rw z (leaf_first x ∙ sym (leaf_first y))
       | inr ge ↦ elim (cases_lt 4 p) [
-          | inl past ↦ get_or_past (leaf_values 4 x) p false (omega (arith, leaf_length 4 x)) ∙ sym (get_or_past (leaf_values 4 y) p false (omega (arith, leaf_length 4 y)))
-          | inr at ↦ absurd (false≢true (sym e ∙ rw (le-leb 1 p ge, le-leb p 4 (omega arith)) refl))
-        ]
+        | inl past ↦ get_or_past (leaf_values 4 x) p false (omega (arith, leaf_length 4 x)) ∙ sym (get_or_past (leaf_values 4 y) p false (omega (arith, leaf_length 4 y)))
+        | inr at ↦ absurd (false≢true (sym e ∙ rw (le-leb 1 p ge, le-leb p 4 (omega arith)) refl))
+      ]
     ]
 
 source_bit : (t : Transform) (x i : ℕ) → i < 4 → is_set (source_of t x) i ≡ bit_xor2 (is_set t.flips i) (is_set x (get_or t.order i 0))
@@ -193,9 +193,9 @@ rewired_four : (t : Transform) (ss : List Step) (root : Lit) → IsTransform t
     → sim (rewired t (record { leaves = 4; steps = ss; root = root })) ≡ transformed t (sim (record { leaves = 4; steps = ss; root = root }))
 rewired_four t ss root h =
     same_rows 4 _ _ (λ x lt.
-        complement_value (run (map (rewired_step t) ss) (leaf_values 4 x)) (rewired_lit t root) t.out
-        ∙ ap (bit_xor2 t.out) (lit_matches t _ _ root (run_matches t ss _ _ h (leaves_match t x h))
-            ∙ sym (row_inside 4 _ (source_of t x) (source_below t x))))
+    complement_value (run (map (rewired_step t) ss) (leaf_values 4 x)) (rewired_lit t root) t.out
+    ∙ ap (bit_xor2 t.out) (lit_matches t _ _ root (run_matches t ss _ _ h (leaves_match t x h))
+    ∙ sym (row_inside 4 _ (source_of t x) (source_below t x))))
 
 rewired_at : (t : Transform) (n : ℕ) (ss : List Step) (root : Lit) → n ≡ 4 → IsTransform t
     → sim (rewired t (record { leaves = n; steps = ss; root = root })) ≡ transformed t (sim (record { leaves = n; steps = ss; root = root }))

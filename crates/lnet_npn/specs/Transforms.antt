@@ -17,7 +17,7 @@ abbrev pub transformed : Transform → Rows → Rows
 transformed t a = by_rows 4 (λ x. bit_xor2 t.out (row a (source_of t x)))
 
 -- whether a list is 0 to 3 in some order: four numbers, each below 4, no two of them the same
-unfoldable pub is_order : List ℕ → Bool
+abbrev pub is_order : List ℕ → Bool
 is_order o =
     let a : ℕ = get_or o 0 0 in
     let b : ℕ = get_or o 1 0 in

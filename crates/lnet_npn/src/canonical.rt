@@ -1,8 +1,8 @@
 //! The least table of a class, and the first way back from it.
 
 ghost use Rattle.std.specs.Prelude.{◌≡◌, ◌≢◌, ℕ, Bool, ◌<◌, ◌≤◌, ◌+◌, ◌*◌, ◌^◌, slice_index, IfSome, None, false, not, min};
-ghost use Rattle.lnet_tables.specs.Bits.{is_set, with_bit};
-ghost use Rattle.lnet_npn.specs.Transforms.{IsTransform, image_of, rank_of, IsLeastOf, IsFirst};
+ghost use Rattle.lnet_tables.specs.Bits.{Rows, is_set, with_bit};
+ghost use Rattle.lnet_npn.specs.Transforms.{IsTransform, image_of, rank_of, transformed, IsLeastOf, IsFirst};
 ghost use Rattle.lnet_npn.specs.Exchanges.{IsArrangement, IsAmong, IsFirstAmong, choice, image_at};
 
 use crate::exchanges::{ARRANGEMENTS, Arrangement, arranged, flipped};
@@ -23,6 +23,7 @@ pub fn canonise(table: Table) -> (Table, Transform)
     requires { table.vars ≡ 4 }
     ensures least { IsLeastOf table result.0 }
     ensures back { IsFirst result.1 result.0 table }
+    ensures class { (t : Transform) (m : Rows) → IsTransform t → IsLeastOf (transformed t table) m → result.0 ≡ m }
 {
     let word = word_of(&table);
     let least = least_image(word);

@@ -12,23 +12,61 @@ pub(crate) struct Exchange {
 }
 
 /// No row changes places.
-const KEEP: Exchange = Exchange { rows: 0, distance: 0 };
+const KEEP: Exchange = Exchange {
+    rows: 0,
+    distance: 0,
+};
 
 /// For two variables, the rows in which the first is true and the second false with those in which it is the other way
 /// round: the variables are exchanged.
-const SWAP_01: Exchange = Exchange { rows: 0x2222, distance: 1 };
-const SWAP_02: Exchange = Exchange { rows: 0x0a0a, distance: 3 };
-const SWAP_03: Exchange = Exchange { rows: 0x00aa, distance: 7 };
-const SWAP_12: Exchange = Exchange { rows: 0x0c0c, distance: 2 };
-const SWAP_13: Exchange = Exchange { rows: 0x00cc, distance: 6 };
-const SWAP_23: Exchange = Exchange { rows: 0x00f0, distance: 4 };
+const SWAP_01: Exchange = Exchange {
+    rows: 0x2222,
+    distance: 1,
+};
+
+const SWAP_02: Exchange = Exchange {
+    rows: 0x0a0a,
+    distance: 3,
+};
+
+const SWAP_03: Exchange = Exchange {
+    rows: 0x00aa,
+    distance: 7,
+};
+
+const SWAP_12: Exchange = Exchange {
+    rows: 0x0c0c,
+    distance: 2,
+};
+
+const SWAP_13: Exchange = Exchange {
+    rows: 0x00cc,
+    distance: 6,
+};
+
+const SWAP_23: Exchange = Exchange {
+    rows: 0x00f0,
+    distance: 4,
+};
 
 /// For each variable, the rows in which it is false with those in which it is true: the variable is complemented.
 const FLIPS: [Exchange; 4] = [
-    Exchange { rows: 0x5555, distance: 1 },
-    Exchange { rows: 0x3333, distance: 2 },
-    Exchange { rows: 0x0f0f, distance: 4 },
-    Exchange { rows: 0x00ff, distance: 8 },
+    Exchange {
+        rows: 0x5555,
+        distance: 1,
+    },
+    Exchange {
+        rows: 0x3333,
+        distance: 2,
+    },
+    Exchange {
+        rows: 0x0f0f,
+        distance: 4,
+    },
+    Exchange {
+        rows: 0x00ff,
+        distance: 8,
+    },
 ];
 
 /// An order of the four variables, and the exchanges that bring a function's variables into it.
@@ -40,30 +78,102 @@ pub(crate) struct Arrangement {
 
 /// The orders of four variables as lists, ascending.
 pub(crate) const ARRANGEMENTS: [Arrangement; 24] = [
-    Arrangement { order: [0, 1, 2, 3], exchanges: [KEEP, KEEP, KEEP] },
-    Arrangement { order: [0, 1, 3, 2], exchanges: [SWAP_23, KEEP, KEEP] },
-    Arrangement { order: [0, 2, 1, 3], exchanges: [SWAP_12, KEEP, KEEP] },
-    Arrangement { order: [0, 2, 3, 1], exchanges: [SWAP_12, SWAP_13, KEEP] },
-    Arrangement { order: [0, 3, 1, 2], exchanges: [SWAP_12, SWAP_23, KEEP] },
-    Arrangement { order: [0, 3, 2, 1], exchanges: [SWAP_13, KEEP, KEEP] },
-    Arrangement { order: [1, 0, 2, 3], exchanges: [SWAP_01, KEEP, KEEP] },
-    Arrangement { order: [1, 0, 3, 2], exchanges: [SWAP_01, SWAP_23, KEEP] },
-    Arrangement { order: [1, 2, 0, 3], exchanges: [SWAP_01, SWAP_02, KEEP] },
-    Arrangement { order: [1, 2, 3, 0], exchanges: [SWAP_01, SWAP_02, SWAP_03] },
-    Arrangement { order: [1, 3, 0, 2], exchanges: [SWAP_01, SWAP_02, SWAP_23] },
-    Arrangement { order: [1, 3, 2, 0], exchanges: [SWAP_01, SWAP_03, KEEP] },
-    Arrangement { order: [2, 0, 1, 3], exchanges: [SWAP_01, SWAP_12, KEEP] },
-    Arrangement { order: [2, 0, 3, 1], exchanges: [SWAP_01, SWAP_12, SWAP_13] },
-    Arrangement { order: [2, 1, 0, 3], exchanges: [SWAP_02, KEEP, KEEP] },
-    Arrangement { order: [2, 1, 3, 0], exchanges: [SWAP_02, SWAP_03, KEEP] },
-    Arrangement { order: [2, 3, 0, 1], exchanges: [SWAP_02, SWAP_13, KEEP] },
-    Arrangement { order: [2, 3, 1, 0], exchanges: [SWAP_01, SWAP_03, SWAP_12] },
-    Arrangement { order: [3, 0, 1, 2], exchanges: [SWAP_01, SWAP_12, SWAP_23] },
-    Arrangement { order: [3, 0, 2, 1], exchanges: [SWAP_01, SWAP_13, KEEP] },
-    Arrangement { order: [3, 1, 0, 2], exchanges: [SWAP_02, SWAP_23, KEEP] },
-    Arrangement { order: [3, 1, 2, 0], exchanges: [SWAP_03, KEEP, KEEP] },
-    Arrangement { order: [3, 2, 0, 1], exchanges: [SWAP_01, SWAP_02, SWAP_13] },
-    Arrangement { order: [3, 2, 1, 0], exchanges: [SWAP_03, SWAP_12, KEEP] },
+    Arrangement {
+        order: [0, 1, 2, 3],
+        exchanges: [KEEP, KEEP, KEEP],
+    },
+    Arrangement {
+        order: [0, 1, 3, 2],
+        exchanges: [SWAP_23, KEEP, KEEP],
+    },
+    Arrangement {
+        order: [0, 2, 1, 3],
+        exchanges: [SWAP_12, KEEP, KEEP],
+    },
+    Arrangement {
+        order: [0, 2, 3, 1],
+        exchanges: [SWAP_12, SWAP_13, KEEP],
+    },
+    Arrangement {
+        order: [0, 3, 1, 2],
+        exchanges: [SWAP_12, SWAP_23, KEEP],
+    },
+    Arrangement {
+        order: [0, 3, 2, 1],
+        exchanges: [SWAP_13, KEEP, KEEP],
+    },
+    Arrangement {
+        order: [1, 0, 2, 3],
+        exchanges: [SWAP_01, KEEP, KEEP],
+    },
+    Arrangement {
+        order: [1, 0, 3, 2],
+        exchanges: [SWAP_01, SWAP_23, KEEP],
+    },
+    Arrangement {
+        order: [1, 2, 0, 3],
+        exchanges: [SWAP_01, SWAP_02, KEEP],
+    },
+    Arrangement {
+        order: [1, 2, 3, 0],
+        exchanges: [SWAP_01, SWAP_02, SWAP_03],
+    },
+    Arrangement {
+        order: [1, 3, 0, 2],
+        exchanges: [SWAP_01, SWAP_02, SWAP_23],
+    },
+    Arrangement {
+        order: [1, 3, 2, 0],
+        exchanges: [SWAP_01, SWAP_03, KEEP],
+    },
+    Arrangement {
+        order: [2, 0, 1, 3],
+        exchanges: [SWAP_01, SWAP_12, KEEP],
+    },
+    Arrangement {
+        order: [2, 0, 3, 1],
+        exchanges: [SWAP_01, SWAP_12, SWAP_13],
+    },
+    Arrangement {
+        order: [2, 1, 0, 3],
+        exchanges: [SWAP_02, KEEP, KEEP],
+    },
+    Arrangement {
+        order: [2, 1, 3, 0],
+        exchanges: [SWAP_02, SWAP_03, KEEP],
+    },
+    Arrangement {
+        order: [2, 3, 0, 1],
+        exchanges: [SWAP_02, SWAP_13, KEEP],
+    },
+    Arrangement {
+        order: [2, 3, 1, 0],
+        exchanges: [SWAP_01, SWAP_03, SWAP_12],
+    },
+    Arrangement {
+        order: [3, 0, 1, 2],
+        exchanges: [SWAP_01, SWAP_12, SWAP_23],
+    },
+    Arrangement {
+        order: [3, 0, 2, 1],
+        exchanges: [SWAP_01, SWAP_13, KEEP],
+    },
+    Arrangement {
+        order: [3, 1, 0, 2],
+        exchanges: [SWAP_02, SWAP_23, KEEP],
+    },
+    Arrangement {
+        order: [3, 1, 2, 0],
+        exchanges: [SWAP_03, KEEP, KEEP],
+    },
+    Arrangement {
+        order: [3, 2, 0, 1],
+        exchanges: [SWAP_01, SWAP_02, SWAP_13],
+    },
+    Arrangement {
+        order: [3, 2, 1, 0],
+        exchanges: [SWAP_03, SWAP_12, KEEP],
+    },
 ];
 
 /// The rows of `word` with those of `exchange` in each other's places.

@@ -77,9 +77,7 @@ fn place_of(order: &[u8; 4], variable: u8) -> u8
 fn padded(order: &[u8; 4]) -> [u8; 10]
     ensures { result ≡ order.now ++ replicate 6 0 }
 {
-    [
-        order[0], order[1], order[2], order[3], 0, 0, 0, 0, 0, 0,
-    ]
+    [order[0], order[1], order[2], order[3], 0, 0, 0, 0, 0, 0]
 }
 
 /// The number whose bit `v` is bit `order[v]` of `flips`.

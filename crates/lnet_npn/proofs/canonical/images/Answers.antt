@@ -4,16 +4,16 @@ use Rattle.lnet_npn.proofs.Doubled.{images_told}
 use Rattle.lnet_npn.proofs.canonical.images.Goals as goal
 
 pub double-requires-clause-variable : goal.double-requires-clause-variable
-double-requires-clause-variable c = (order_below _ c.requires.order).at 0 (omega arith)
+double-requires-clause-variable c = (order_below c.args.arrangement.now.order c.requires.order).at 0 (omega arith)
 
 pub double-requires-2-clause-variable : goal.double-requires-2-clause-variable
-double-requires-2-clause-variable c = (order_below _ c.requires.order).at 1 (omega arith)
+double-requires-2-clause-variable c = (order_below c.args.arrangement.now.order c.requires.order).at 1 (omega arith)
 
 pub double-requires-3-clause-variable : goal.double-requires-3-clause-variable
-double-requires-3-clause-variable c = (order_below _ c.requires.order).at 2 (omega arith)
+double-requires-3-clause-variable c = (order_below c.args.arrangement.now.order c.requires.order).at 2 (omega arith)
 
 pub double-requires-4-clause-variable : goal.double-requires-4-clause-variable
-double-requires-4-clause-variable c = (order_below _ c.requires.order).at 3 (omega arith)
+double-requires-4-clause-variable c = (order_below c.args.arrangement.now.order c.requires.order).at 3 (omega arith)
 
 pub returns : goal.returns
 returns c =

@@ -17,8 +17,8 @@ loop-variable-preserved c =
       | then-flips-variable-eq1 w ↦
           let e : is_set f v ≡ true = sym (test_bit f v) ∙ eq-eqb _ _ w.if-flips-variable-eq1.true in
           λ x lt. ap (λ n. is_set n x) w.out-is ∙ w.flipped-out.ensures x lt
-              ∙ c.loop-variable.invariant _ (flip_below x v lt (omega arith))
-              ∙ ap (is_set c.args.word) (turned_set f x v c.requires lt (omega arith) e)
+          ∙ c.loop-variable.invariant _ (flip_below x v lt (omega arith))
+          ∙ ap (is_set c.args.word) (turned_set f x v c.requires lt (omega arith) e)
       | else-flips-variable-eq1 w ↦
           let e : is_set f v ≡ false = sym (test_bit f v) ∙ ne_eqb _ _ w.if-flips-variable-eq1.false in
           λ x lt. ap (λ n. is_set n x) w.out-is ∙ c.loop-variable.invariant x lt ∙ ap (is_set c.args.word) (turned_unset f x v c.requires lt (omega arith) e)

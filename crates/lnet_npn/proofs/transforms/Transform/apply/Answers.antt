@@ -20,10 +20,10 @@ returns-then-self c =
     let b : Below4 c.args.self.now.order = order_below _ c.requires.lawful.order in
     c.not.ensures
     ∙ ap not_rows
-        (c.permute-ordered.ensures ∙ ap (λ (t : Rows). permute_rows t c.padded.result) c.table_of-flipped.ensures
-        ∙ ordered_rows c.args.self.now c.args.table c.flip_all.result c.padded.result c.requires.lawful
-            (λ x lt. c.flip_all.ensures x lt ∙ ap (λ (n : ℕ). is_set n (turned c.args.self.now.flips x)) c.word_of.ensures.value)
-            (padded_same _ _ b.long c.padded.ensures))
+    (c.permute-ordered.ensures ∙ ap (λ (t : Rows). permute_rows t c.padded.result) c.table_of-flipped.ensures
+    ∙ ordered_rows c.args.self.now c.args.table c.flip_all.result c.padded.result c.requires.lawful
+    (λ x lt. c.flip_all.ensures x lt ∙ ap (λ (n : ℕ). is_set n (turned c.args.self.now.flips x)) c.word_of.ensures.value)
+    (padded_same _ _ b.long c.padded.ensures))
     ∙ complement_is c.args.self.now c.args.table c.if-self.true
 
 pub returns-else-self : goal.returns-else-self
@@ -31,6 +31,6 @@ returns-else-self c =
     let b : Below4 c.args.self.now.order = order_below _ c.requires.lawful.order in
     c.permute-ordered.ensures ∙ ap (λ (t : Rows). permute_rows t c.padded.result) c.table_of-flipped.ensures
     ∙ ordered_rows c.args.self.now c.args.table c.flip_all.result c.padded.result c.requires.lawful
-        (λ x lt. c.flip_all.ensures x lt ∙ ap (λ (n : ℕ). is_set n (turned c.args.self.now.flips x)) c.word_of.ensures.value)
-        (padded_same _ _ b.long c.padded.ensures)
+    (λ x lt. c.flip_all.ensures x lt ∙ ap (λ (n : ℕ). is_set n (turned c.args.self.now.flips x)) c.word_of.ensures.value)
+    (padded_same _ _ b.long c.padded.ensures)
     ∙ plain_is c.args.self.now c.args.table c.if-self.false

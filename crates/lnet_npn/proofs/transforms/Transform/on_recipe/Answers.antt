@@ -43,9 +43,9 @@ returns-clause-value c =
     let r : RecipeValue = c.args.recipe.now in
     c.set_root.ensures
     ∙ rewired_is t r c.loop-i.result c.complement_if.result
-        (c.loop-i.invariant.leaves ∙ sym c.requires.four)
-        (c.loop-i.invariant.steps ∙ taken_all (rewired_step t) r.steps c.loop-i.i (omega arith))
-        (c.complement_if.ensures ∙ ap (complemented_if t.out) (c.on_lit-root.ensures ∙ ap (rewired_lit t) c.root.ensures.value))
+    (c.loop-i.invariant.leaves ∙ sym c.requires.four)
+    (c.loop-i.invariant.steps ∙ taken_all (rewired_step t) r.steps c.loop-i.i (omega arith))
+    (c.complement_if.ensures ∙ ap (complemented_if t.out) (c.on_lit-root.ensures ∙ ap (rewired_lit t) c.root.ensures.value))
 
 pub returns-clause-function : goal.returns-clause-function
 returns-clause-function c = ap sim (returns-clause-value c) ∙ rewired_sim c.args.self.now c.args.recipe.now c.requires.lawful c.requires.four

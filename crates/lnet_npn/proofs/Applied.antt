@@ -1,7 +1,7 @@
 -- A table transformed by steps: its flips first, then its order, then the complement of its value.
-use Rattle.std.proofs.Common.{◌≡◌, ℕ, ◌<◌, ◌^◌, Bool, true, false, List, ◌++◌, length, replicate, refl, sym, ◌∙◌, ap, arith, get_or, not}
+use Rattle.std.proofs.Common.{◌≡◌, ℕ, ◌<◌, true, false, List, ◌++◌, length, replicate, sym, ◌∙◌, ap, arith, get_or}
 use Rattle.std.proofs.lemmas.List.{get_or_append_left}
-use Rattle.lnet_tables.specs.Bits.{Rows, row, by_rows, is_set, moved, number_by, bit_xor2, permute_rows, not_rows}
+use Rattle.lnet_tables.specs.Bits.{Rows, row, by_rows, is_set, moved, bit_xor2, permute_rows, not_rows}
 use Rattle.lnet_tables.specs.Inverse.{row_inside}
 use Rattle.lnet_tables.proofs.RowNumbers.{number_below}
 use Rattle.lnet_tables.proofs.Ops.{same_rows}

@@ -1,5 +1,5 @@
 -- The table of the arrangements and that of the flips, checked by computation.
-use Rattle.std.proofs.Common.{◌≡◌, ℕ, ◌+◌, ◌-◌, ◌*◌, ◌<◌, ◌≤◌, Bool, true, false, List, [], ◌∷◌, length, refl, sym, ◌∙◌, ap, arith, suc, zero, not, get_or, ltb, eqb, zero-add}
+use Rattle.std.proofs.Common.{◌≡◌, ℕ, ◌+◌, ◌<◌, Bool, true, false, List, [], ◌∷◌, length, refl, arith, suc, zero, not, get_or, ltb, eqb, zero-add}
 use mathlib.Core.Bool.{◌&&◌}
 use Rattle.std.proofs.lemmas.Bool.{agree_below, agree_below_at, and_parts, eqb-true, ltb-true, false≢true}
 use Rattle.lnet_tables.specs.Bits.{is_set, moved, with_bit, number_by}

@@ -1,7 +1,6 @@
 -- Numbers made bit by bit.
-use Rattle.std.proofs.Common.{◌≡◌, ℕ, ◌+◌, ◌*◌, ◌^◌, ◌%◌, ◌<◌, ◌≤◌, Bool, true, false, sym, ◌∙◌, ap, arith, suc, add-one, inl, inr}
-use Rattle.std.proofs.lemmas.Bool.{cases_lt}
-use Rattle.std.proofs.lemmas.Nat.{one_shl, pow_below, pow-add}
+use Rattle.std.proofs.Common.{◌≡◌, ℕ, ◌+◌, ◌*◌, ◌^◌, ◌%◌, ◌<◌, Bool, true, false, sym, ◌∙◌, ap, arith, suc, add-one}
+use Rattle.std.proofs.lemmas.Nat.{one_shl, pow-add}
 use Rattle.lnet_tables.specs.Bits.{number_by}
 use Rattle.lnet_tables.proofs.RowNumbers.{number_below, number_more}
 use Rattle.lnet_tables.proofs.Constants.{pow_within}

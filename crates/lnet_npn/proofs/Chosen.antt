@@ -1,9 +1,9 @@
 -- The least and the first among images and their complements.
-use Rattle.std.proofs.Common.{◌≡◌, ◌≢◌, ℕ, ◌+◌, ◌-◌, ◌*◌, ◌<◌, ◌≤◌, Bool, true, false, List, refl, sym, ◌∙◌, ap, arith, get_or, inl, inr, min}
+use Rattle.std.proofs.Common.{◌≡◌, ◌≢◌, ℕ, ◌+◌, ◌-◌, ◌*◌, ◌<◌, ◌≤◌, Bool, true, false, List, refl, sym, ◌∙◌, arith, get_or, inl, inr, min}
 use Rattle.std.proofs.lemmas.Bool.{cases_lt}
 use Rattle.lnet_tables.specs.Bits.{bit_of}
 use Rattle.lnet_npn.specs.Exchanges.{choice, IsAmong}
-use Rattle.lnet_npn.specs.Exchanges.IsAmong.{Given, Image}
+use Rattle.lnet_npn.specs.Exchanges.IsAmong.{Image}
 
 pub choice_plain : (images : List ℕ) (f : ℕ) → choice images f false ≡ get_or images f 0
 unfolding choice

@@ -1,17 +1,15 @@
 -- All tables of a class have one least table.
-use Rattle.std.proofs.Common.{◌≡◌, ℕ, ◌+◌, ◌*◌, ◌^◌, ◌<◌, ◌≤◌, Bool, true, false, List, [], ◌∷◌, length, refl, sym, ◌∙◌, ap, arith, get_or, suc, zero}
-use mathlib.Core.Bool.{◌&&◌}
-use Rattle.std.proofs.lemmas.Bool.{agree_below, agree_below_at, and_parts, eqb-true}
-use Rattle.lnet_tables.specs.Bits.{Rows, row, by_rows, is_set, moved, number_by, bit_xor2}
+use Rattle.std.proofs.Common.{◌≡◌, ℕ, ◌<◌, ◌≤◌, Bool, true, false, List, [], ◌∷◌, length, refl, sym, ◌∙◌, ap, arith, get_or, suc, zero}
+use Rattle.std.proofs.lemmas.Bool.{agree_below, agree_below_at}
+use Rattle.lnet_tables.specs.Bits.{Rows, row, by_rows, is_set, number_by, bit_xor2}
 use Rattle.lnet_tables.specs.Inverse.{row_inside}
 use Rattle.lnet_tables.proofs.RowNumbers.{number_below}
 use Rattle.lnet_tables.proofs.Ops.{same_rows}
 use Rattle.lnet_tables.proofs.Rowwise.{rows_long}
 use Rattle.lnet_npn.specs.declared.transforms.Transform.{Transform}
 use Rattle.lnet_npn.specs.Transforms.{is_order, source_of, IsTransform, inverse_of, transformed, number_of, IsOfClass, IsLeastOf}
-use Rattle.lnet_npn.proofs.Orders.{Below4, order_below, order_known, order_at, orders_of}
-use Rattle.lnet_npn.proofs.Images.{set_inside, same_number, source_below, told_by_bits, transformed_back, inverse_lawful}
-use Rattle.lnet_npn.proofs.Ranked.{made_of}
+use Rattle.lnet_npn.proofs.Orders.{order_below, order_known, order_at, orders_of}
+use Rattle.lnet_npn.proofs.Images.{set_inside, same_number, source_below, transformed_back, inverse_lawful}
 
 -- ---- one transform after another
 -- the order of first s, then t

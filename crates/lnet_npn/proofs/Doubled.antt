@@ -1,9 +1,8 @@
 -- The images of one order, doubled variable by variable.
-use Rattle.std.proofs.Common.{◌≡◌, ℕ, ◌+◌, ◌-◌, ◌<◌, ◌≤◌, ◌^◌, Bool, true, false, List, refl, sym, ◌∙◌, ap, arith, get_or, not, inl, inr, lit<, lit≤, replicate}
+use Rattle.std.proofs.Common.{◌≡◌, ℕ, ◌+◌, ◌-◌, ◌<◌, ◌≤◌, ◌^◌, true, false, List, refl, sym, ◌∙◌, ap, arith, get_or, not, inl, inr, lit<, lit≤, replicate}
 use Rattle.std.proofs.lemmas.Bool.{cases_lt}
-use Rattle.lnet_tables.specs.Bits.{is_set, moved, with_bit, bit_xor2}
+use Rattle.lnet_tables.specs.Bits.{is_set, moved, with_bit}
 use Rattle.lnet_tables.proofs.RowNumbers.{number_below}
-use Rattle.lnet_npn.specs.declared.transforms.Transform.{Transform}
 use Rattle.lnet_npn.specs.Transforms.{is_order, image_of}
 use Rattle.lnet_npn.specs.Exchanges.{image_at}
 use Rattle.lnet_npn.proofs.Orders.{Below4, order_below, source_at, split_row, doubled_row}

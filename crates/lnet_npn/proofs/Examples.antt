@@ -1,8 +1,8 @@
 -- The definitions against worked rows.
-use Rattle.std.proofs.Common.{◌≡◌, ℕ, true, false, List, [], ◌∷◌, refl}
+use Rattle.std.proofs.Common.{◌≡◌, ℕ, true, false, [], ◌∷◌, refl}
 use Rattle.lnet_tables.specs.Bits.{Rows, by_rows, is_set, tabulate, number_by}
 use Rattle.lnet_npn.specs.declared.transforms.Transform.{Transform}
-use Rattle.lnet_npn.specs.Transforms.{source_of, transformed, is_order, place_in, undone, inverse_of, number_of, image_of, rank_of}
+use Rattle.lnet_npn.specs.Transforms.{source_of, transformed, is_order, place_in, undone, inverse_of, image_of}
 
 -- the table whose rows are the bits of a number
 of_number : ℕ → Rows

@@ -1,5 +1,5 @@
 -- Rows that change places within a number of sixteen.
-use Rattle.std.proofs.Common.{◌≡◌, ℕ, ◌+◌, ◌-◌, ◌*◌, ◌^◌, ◌/◌, ◌%◌, ◌<◌, ◌≤◌, Bool, true, false, cond, refl, sym, ◌∙◌, ap, arith, inl, inr, not, bit_and, leb}
+use Rattle.std.proofs.Common.{◌≡◌, ℕ, ◌+◌, ◌-◌, ◌*◌, ◌^◌, ◌/◌, ◌%◌, ◌<◌, ◌≤◌, Bool, true, false, cond, refl, sym, ◌∙◌, ap, arith, inl, inr, bit_and, leb}
 use Rattle.std.specs.Prelude.{bit_xor}
 use mathlib.Core.Bool.{◌&&◌}
 use Rattle.std.specs.Int.{bit_at}
@@ -11,7 +11,7 @@ use Rattle.lnet_tables.proofs.Ops.{set_and, set_xor}
 use Rattle.lnet_tables.proofs.Swap.{set_shr}
 use Rattle.lnet_tables.proofs.WordBits.{mod_bit}
 use Rattle.lnet_npn.specs.declared.exchanges.Exchange.{Exchange}
-use Rattle.lnet_npn.specs.Exchanges.{fetched, falls, IsExchange}
+use Rattle.lnet_npn.specs.Exchanges.{fetched, IsExchange}
 
 shl_low : (n s b : ℕ) → b < 16 → b < s → bit_at (n * 2 ^ s % 65536) b ≡ 0
 shl_low n s b h lt =

@@ -1,6 +1,5 @@
 -- A table of four variables as a number.
-use Rattle.std.proofs.Common.{◌≡◌, ℕ, ◌%◌, ◌<◌, Bool, List, sym, ◌∙◌, ap, arith, get_or}
-use Rattle.std.specs.Int.{bit_at}
+use Rattle.std.proofs.Common.{◌≡◌, ℕ, ◌%◌, Bool, List, sym, ◌∙◌, ap, arith, get_or}
 use Rattle.std.proofs.lemmas.Nat.Bits.{same_from_bits_below}
 use Rattle.lnet_tables.specs.Bits.{Rows, row, by_rows, is_set, bit_of, number_by}
 use Rattle.lnet_tables.specs.Words.{word_bit}

@@ -1,10 +1,10 @@
 -- The bits of a row complemented one after the other, checked by computation.
-use Rattle.std.proofs.Common.{◌≡◌, ℕ, ◌+◌, ◌<◌, Bool, true, false, cond, refl, sym, ◌∙◌, ap, arith, not, ltb, eqb}
+use Rattle.std.proofs.Common.{◌≡◌, ℕ, ◌+◌, ◌<◌, Bool, true, false, cond, refl, sym, ◌∙◌, ap, not, eqb}
 use Rattle.std.specs.Prelude.{nat_lt}
 use mathlib.Core.Bool.{◌&&◌}
-use Rattle.std.proofs.lemmas.Bool.{agree_below, agree_below_at, and_parts, eqb-true, ltb-true}
+use Rattle.std.proofs.lemmas.Bool.{agree_below, agree_below_at, and_parts, eqb-true}
 use Rattle.lnet_tables.specs.Bits.{is_set, with_bit, number_by, bit_xor2}
-use Rattle.lnet_tables.proofs.RowNumbers.{number_below, put_fits}
+use Rattle.lnet_tables.proofs.RowNumbers.{put_fits}
 use Rattle.lnet_npn.specs.Transforms.{turned}
 
 -- the row x with the bits of f below v complemented

@@ -1,15 +1,15 @@
 -- What transforms make of numbers.
-use Rattle.std.proofs.Common.{◌≡◌, ℕ, ◌+◌, ◌-◌, ◌*◌, ◌^◌, ◌<◌, ◌≤◌, Bool, true, false, cond, List, [], ◌∷◌, length, refl, sym, ◌∙◌, ap, arith, suc, zero, not, get_or, add-one}
+use Rattle.std.proofs.Common.{◌≡◌, ℕ, ◌+◌, ◌-◌, ◌*◌, ◌^◌, ◌<◌, Bool, true, false, List, length, refl, sym, ◌∙◌, ap, arith, suc, zero, not, get_or, add-one}
 use Rattle.std.specs.Prelude.{◌==◌}
 use Rattle.std.proofs.lemmas.Nat.{pow-add}
 use Rattle.std.proofs.lemmas.Nat.Bits.{same_from_bits_below}
-use Rattle.lnet_tables.specs.Bits.{Rows, row, by_rows, is_set, moved, number_by, bit_xor2, bit_of}
+use Rattle.lnet_tables.specs.Bits.{Rows, row, by_rows, is_set, number_by, bit_xor2, bit_of}
 use Rattle.lnet_tables.specs.Inverse.{bit_inside, bit_of_set, row_inside}
 use Rattle.lnet_tables.proofs.RowNumbers.{number_below}
 use Rattle.lnet_tables.proofs.Ops.{same_rows}
 use Rattle.lnet_tables.proofs.Rowwise.{eta_rows}
 use Rattle.lnet_npn.specs.declared.transforms.Transform.{Transform}
-use Rattle.lnet_npn.specs.Transforms.{is_order, source_of, undone, IsTransform, inverse_of, image_of, transformed, number_of}
+use Rattle.lnet_npn.specs.Transforms.{source_of, IsTransform, inverse_of, image_of, transformed, number_of}
 use Rattle.lnet_npn.specs.Exchanges.{choice, image_at}
 use Rattle.lnet_npn.proofs.Orders.{source_at, source_is, undone_row, undone_order}
 

@@ -1,14 +1,12 @@
 -- The 24 orders, checked by computation: they are all, they ascend, and each is undone by another.
-use Rattle.std.proofs.Common.{◌≡◌, ℕ, ◌+◌, ◌-◌, ◌*◌, ◌^◌, ◌<◌, ◌≤◌, Bool, true, false, cond, List, [], ◌∷◌, length, refl, sym, ◌∙◌, ap, arith, suc, zero, not, get_or, ltb, eqb, inl, inr, map}
-use Rattle.std.specs.Prelude.{nat_lt, ◌==◌}
+use Rattle.std.proofs.Common.{◌≡◌, ℕ, ◌+◌, ◌*◌, ◌^◌, ◌<◌, Bool, true, false, cond, List, [], ◌∷◌, length, refl, arith, suc, zero, not, get_or, ltb, eqb}
 use mathlib.Core.Bool.{◌&&◌}
 use Rattle.std.proofs.lemmas.Bool.{agree_below, agree_below_at, and_parts, eqb-true, ltb-true, false≢true, lt-ltb}
-use Rattle.lnet_tables.specs.Bits.{is_set, moved, with_bit, number_by, bit_xor2, bit_of}
-use Rattle.lnet_tables.proofs.RowNumbers.{number_below}
+use Rattle.lnet_tables.specs.Bits.{is_set, moved, with_bit, number_by}
 use Rattle.lnet_npn.specs.declared.transforms.Transform.{Transform}
 use Rattle.lnet_npn.specs.declared.exchanges.Arrangement.{Arrangement}
 use Rattle.lnet_npn.specs.declared.exchanges.TheConstants.{ARRANGEMENTS}
-use Rattle.lnet_npn.specs.Transforms.{is_order, source_of, undone, place_in, turned, IsTransform, inverse_of}
+use Rattle.lnet_npn.specs.Transforms.{is_order, source_of, undone, place_in, turned}
 
 unfoldable pub orders_of : List Arrangement → List (List ℕ)
 orders_of [] = []

@@ -3,11 +3,10 @@ use Rattle.std.proofs.Common.{◌≡◌, ◌≢◌, ℕ, ◌+◌, ◌*◌, ◌^�
 use Rattle.std.proofs.lemmas.Bool.{cases_lt, agree_below, agree_below_at, eqb-true}
 use Rattle.lnet_tables.specs.Bits.{Rows, by_rows, is_set, bit_of, number_by}
 use Rattle.lnet_npn.specs.declared.transforms.Transform.{Transform}
-use Rattle.lnet_npn.specs.declared.exchanges.TheConstants.{ARRANGEMENTS}
-use Rattle.lnet_npn.specs.Transforms.{is_order, source_of, IsTransform, image_of, rank_of, transformed, number_of, inverse_of, IsLeastOf, IsFirst}
-use Rattle.lnet_npn.specs.Exchanges.{IsAmong, IsFirstAmong, choice, image_at, IsArrangement}
+use Rattle.lnet_npn.specs.Transforms.{is_order, source_of, IsTransform, image_of, rank_of, number_of, inverse_of, IsLeastOf, IsFirst}
+use Rattle.lnet_npn.specs.Exchanges.{IsAmong, IsFirstAmong, choice, image_at}
 use Rattle.lnet_npn.specs.Exchanges.IsAmong.{Given, Image}
-use Rattle.lnet_npn.proofs.Orders.{order_at, order_is, order_known, order_rank, ascending}
+use Rattle.lnet_npn.proofs.Orders.{order_at, order_known, order_rank, ascending}
 use Rattle.lnet_npn.proofs.Images.{choice_is, image_back, inverse_lawful, number_image, table_image, number_table, told_by_bits}
 
 abbrev pub made_of : List ℕ → ℕ → Bool → Transform

@@ -1,5 +1,5 @@
 -- A rewired recipe computes the transformed function.
-use Rattle.std.proofs.Common.{◌≡◌, ℕ, ◌+◌, ◌-◌, ◌*◌, ◌/◌, ◌%◌, ◌<◌, ◌≤◌, Bool, true, false, cond, List, [], ◌∷◌, ◌++◌, map, length, refl, sym, ◌∙◌, ap, arith, suc, zero, get_or, not, inl, inr, leb, lit<, lit≤}
+use Rattle.std.proofs.Common.{◌≡◌, ℕ, ◌+◌, ◌-◌, ◌%◌, ◌<◌, ◌≤◌, Bool, true, false, List, [], ◌∷◌, ◌++◌, map, length, refl, sym, ◌∙◌, ap, arith, suc, zero, get_or, not, inl, inr, leb}
 use Rattle.std.specs.Prelude.{◌==◌, Result, Ok, Err, IsOk, OnOk, slice_get}
 use Rattle.std.proofs.Common.{Some, take}
 use Rattle.std.proofs.Math.Seq.{take-length}
@@ -8,12 +8,12 @@ use mathlib.Core.Bool.{◌&&◌}
 use Rattle.std.proofs.lemmas.Bool.{cases_lt, le-leb, lt-leb, leb-true, and_parts, false≢true}
 use Rattle.std.proofs.lemmas.List.{get_or_append_left, get_or_push, length_push, get_or_past, take_more, length-map, length-take-le, map-append}
 use Rattle.std.proofs.lemmas.List.FromFn.{get_or-map-range_with_len}
-use Rattle.lnet_tables.specs.Bits.{Rows, row, by_rows, is_set, bit_xor2}
+use Rattle.lnet_tables.specs.Bits.{is_set, bit_xor2}
 use Rattle.lnet_tables.specs.Inverse.{row_inside}
 use Rattle.lnet_tables.proofs.Ops.{same_rows}
 use Rattle.lnet_tables.specs.declared.step.Lit.{Lit}
 use Rattle.lnet_tables.specs.declared.step.Step.{Step}
-use Rattle.lnet_tables.specs.Recipes.{RecipeValue, StepFits, place, next_place, lit_value, step_value, apply, run, leaf_values, sim, root_value}
+use Rattle.lnet_tables.specs.Recipes.{RecipeValue, StepFits, place, lit_value, step_value, apply, run, leaf_values, sim}
 use Rattle.lnet_tables.specs.Shannon.{other}
 use Rattle.lnet_tables.proofs.ShannonSteps.{place_other, sign_other}
 use Rattle.lnet_tables.proofs.Growing.{leaf_length}

@@ -1,5 +1,5 @@
 -- How the sixteen rows of a function in one number are moved, and what the search sees of one order.
-use Rattle.std.specs.Prelude.{ℕ, ◌≡◌, ◌≢◌, ◌+◌, ◌-◌, ◌*◌, ◌<◌, Bool, true, false, cond, List, leb, IsTrue}
+use Rattle.std.specs.Prelude.{ℕ, ◌≡◌, ◌≢◌, ◌+◌, ◌-◌, ◌*◌, ◌<◌, Bool, false, cond, List, leb, IsTrue}
 use mathlib.Core.Bool.{◌&&◌}
 use lib.ListN.{get_or}
 use Rattle.lnet_tables.specs.Bits.{is_set, moved, bit_of}

@@ -1,5 +1,5 @@
 -- A recipe of a transformed function: its leaves and its root are changed, and its steps stay in their places.
-use Rattle.std.specs.Prelude.{ℕ, ◌+◌, ◌-◌, ◌*◌, ◌/◌, ◌%◌, Bool, true, false, cond, List, map, leb}
+use Rattle.std.specs.Prelude.{ℕ, ◌+◌, ◌-◌, ◌*◌, ◌%◌, Bool, cond, map, leb}
 use mathlib.Core.Bool.{◌&&◌}
 use lib.ListN.{get_or}
 use Rattle.lnet_tables.specs.Bits.{is_set}

@@ -1,7 +1,7 @@
 -- Transforms of functions of four variables, and the classes that they make: the order of the variables, complements of
--- variables, and a complement of the value (S. H. Golomb, "On the classification of Boolean functions", IRE Transactions
--- on Information Theory 5, 1959).
-use Rattle.std.specs.Prelude.{ℕ, ◌≡◌, ◌≢◌, ◌+◌, ◌*◌, ◌<◌, ◌≤◌, length, Bool, true, false, not, cond, List, [], ◌∷◌, map, ◌==◌, nat_lt, IsTrue}
+-- variables, and a complement of the value (S. W. Golomb, "On the classification of Boolean functions", IRE Transactions
+-- on Circuit Theory 6, 1959).
+use Rattle.std.specs.Prelude.{ℕ, ◌≡◌, ◌≢◌, ◌+◌, ◌*◌, ◌<◌, ◌≤◌, length, Bool, not, cond, List, [], ◌∷◌, ◌==◌, nat_lt, IsTrue}
 use mathlib.Core.Bool.{◌&&◌}
 use lib.ListN.{get_or}
 use Rattle.lnet_tables.specs.Bits.{Rows, row, by_rows, is_set, bit_of, bit_xor2, number_by, moved}

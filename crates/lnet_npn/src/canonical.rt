@@ -16,7 +16,7 @@ use lnet_tables::Table;
 /// `r`, and transforms by `order` as a list, then `flips`, then `out`, false before true. All tables of a class have one
 /// least table; there are 222 classes.
 ///
-/// Classes after S. H. Golomb, "On the classification of Boolean functions", IRE Transactions on Information Theory 5
+/// Classes after S. W. Golomb, "On the classification of Boolean functions", IRE Transactions on Circuit Theory 6
 /// (1959). Tries all transforms: for each of 24 orders, twice, at most three exchanges of rows in a number of 16 bits,
 /// and 15 exchanges for the complements.
 pub fn canonise(table: Table) -> (Table, Transform)

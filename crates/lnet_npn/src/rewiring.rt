@@ -21,6 +21,7 @@ impl Transform {
     {
         let mut result = Recipe::new(4);
         for i in 0..recipe.len() {
+            // not: refused, since a recipe has at most 128 steps
             let _ = result.push(self.on_step(recipe.step(i)));
         }
         let root = self.on_lit(recipe.root());

@@ -1,4 +1,4 @@
-use Rattle.std.proofs.Common.{◌≡◌, ℕ, ◌+◌, ◌<◌, ◌≤◌, ◌^◌, get_or, not}
+use Rattle.std.proofs.Common.{◌≡◌, ℕ, ◌+◌, ◌<◌, ◌^◌, get_or, not}
 use Rattle.lnet_tables.specs.Bits.{is_set, with_bit}
 use Rattle.lnet_npn.proofs.canonical.double.Given as goal
 

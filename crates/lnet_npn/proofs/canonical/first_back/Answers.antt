@@ -1,8 +1,7 @@
-use Rattle.std.proofs.Common.{◌≡◌, ◌<◌, ℕ, sym, ap, ◌∙◌, arith, Bool, false, rules, refl}
-use Rattle.lnet_npn.specs.Exchanges.{IsArrangement, IsFirstAmong, image_at}
+use Rattle.std.proofs.Common.{ℕ, arith, refl}
 use Rattle.lnet_npn.proofs.Arrangements.{arrangement_at}
-use Rattle.lnet_npn.proofs.Orders.{order_at, order_is}
-use Rattle.lnet_npn.proofs.Ranked.{none_seen, none_after, back_of, lawful_of, first_of_all, images_at, among_at, unreached}
+use Rattle.lnet_npn.proofs.Orders.{order_is}
+use Rattle.lnet_npn.proofs.Ranked.{none_after, back_of, lawful_of, first_of_all, images_at, among_at, unreached}
 use Rattle.lnet_npn.proofs.canonical.first_back.Goals as goal
 
 pub images-requires : goal.images-requires

@@ -1,5 +1,4 @@
-use Rattle.std.proofs.Common.{arith, refl, ap, ◌∙◌, ◌≡◌, ◌≢◌, ◌-◌, get_or, true, false, sym}
-use Rattle.lnet_npn.specs.Exchanges.{choice}
+use Rattle.std.proofs.Common.{arith, refl, ◌∙◌, sym}
 use Rattle.lnet_npn.proofs.Chosen.{choice_plain, choice_complement, first_plain, first_complement, none_more}
 use Rattle.lnet_npn.proofs.canonical.first_of.Goals as goal
 

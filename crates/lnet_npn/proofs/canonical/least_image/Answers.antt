@@ -1,7 +1,6 @@
-use Rattle.std.proofs.Common.{◌≡◌, ◌<◌, ℕ, sym, ap, ◌∙◌, arith, Bool, false}
-use Rattle.lnet_npn.specs.Exchanges.{IsArrangement, image_at}
+use Rattle.std.proofs.Common.{◌≡◌, ℕ, arith}
 use Rattle.lnet_npn.proofs.Arrangements.{arrangement_at}
-use Rattle.lnet_npn.proofs.Orders.{order_at, order_is}
+use Rattle.lnet_npn.proofs.Orders.{order_is}
 use Rattle.lnet_npn.proofs.Ranked.{least_seen, least_more, made_more, unchanged_makes, images_at}
 use Rattle.lnet_npn.proofs.canonical.least_image.Goals as goal
 

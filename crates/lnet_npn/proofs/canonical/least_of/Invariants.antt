@@ -1,4 +1,4 @@
-use Rattle.std.proofs.Common.{◌≡◌, ℕ, Bool, ◌<◌, ◌≤◌}
+use Rattle.std.proofs.Common.{ℕ, Bool, ◌<◌, ◌≤◌}
 use Rattle.lnet_npn.specs.Exchanges.{choice, IsAmong}
 use Rattle.lnet_npn.proofs.canonical.least_of.Given as goal
 

@@ -1,4 +1,4 @@
-use Rattle.std.proofs.Common.{◌∙◌, ap, ◌≡◌, ◌<◌, ℕ, arith}
+use Rattle.std.proofs.Common.{◌∙◌, ap, arith}
 use Rattle.lnet_tables.specs.Bits.{is_set}
 use Rattle.lnet_npn.proofs.exchanges.arranged.Goals as goal
 

@@ -1,6 +1,6 @@
-use Rattle.std.proofs.Common.{rules, arith, ◌≡◌, ◌∙◌, ap, ℕ, ◌<◌, sym, get_or}
-use Rattle.lnet_tables.specs.Bits.{Rows, row, by_rows, not_rows, permute_rows, is_set}
-use Rattle.lnet_npn.specs.Transforms.{source_of, number_of, turned}
+use Rattle.std.proofs.Common.{arith, ◌≡◌, ◌∙◌, ap, ℕ, ◌<◌}
+use Rattle.lnet_tables.specs.Bits.{Rows, not_rows, permute_rows, is_set}
+use Rattle.lnet_npn.specs.Transforms.{turned}
 use Rattle.lnet_npn.proofs.Orders.{Below4, order_below}
 use Rattle.lnet_npn.proofs.Applied.{ordered_rows, plain_is, complement_is, padded_same}
 use Rattle.lnet_npn.proofs.transforms.Transform.apply.Goals as goal

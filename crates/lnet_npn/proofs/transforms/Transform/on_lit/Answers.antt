@@ -1,4 +1,4 @@
-use Rattle.std.proofs.Common.{◌∙◌, ap, sym, Bool, ◌-◌, ◌/◌, arith}
+use Rattle.std.proofs.Common.{◌∙◌, ap, sym, Bool, ◌-◌, ◌/◌}
 use Rattle.lnet_tables.proofs.Constants.{test_bit}
 use Rattle.lnet_npn.specs.Rewiring.{complemented_if, renamed}
 use Rattle.lnet_npn.proofs.Rewired.{LeafOr, leaf_range, leaf_lit, kept_lit}

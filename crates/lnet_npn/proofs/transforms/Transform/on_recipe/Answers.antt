@@ -1,9 +1,7 @@
-use Rattle.std.proofs.Common.{◌≡◌, ◌<◌, ◌≤◌, ◌+◌, ℕ, sym, ap, ◌∙◌, arith, refl, map, take, length, List, ◌++◌, ◌∷◌, []}
+use Rattle.std.proofs.Common.{◌≡◌, ◌<◌, ◌+◌, ℕ, sym, ap, ◌∙◌, arith, map, take, length, List, ◌++◌, ◌∷◌, []}
 use Rattle.lnet_tables.specs.declared.step.Step.{Step}
-use Rattle.lnet_tables.specs.declared.step.Lit.{Lit}
-use Rattle.lnet_tables.specs.Recipes.{RecipeValue, StepFits, next_place, place, sim}
-use Rattle.lnet_npn.specs.Transforms.{transformed}
-use Rattle.lnet_npn.specs.Rewiring.{complemented_if, rewired_lit, rewired_step, rewired}
+use Rattle.lnet_tables.specs.Recipes.{RecipeValue, next_place, place, sim}
+use Rattle.lnet_npn.specs.Rewiring.{complemented_if, rewired_lit, rewired_step}
 use Rattle.lnet_npn.proofs.Rewired.{step_fits, root_fits, taken_long, taken_more, taken_all, from_ok, rewired_is, rewired_sim}
 use Rattle.lnet_npn.proofs.transforms.Transform.on_recipe.Goals as goal
 

@@ -1,0 +1,14 @@
+pub mod Bits
+pub mod Exchanged
+pub mod Arrangements
+pub mod FirstRows
+pub mod Flips
+pub mod Orders
+pub mod Images
+pub mod Applied
+pub mod Doubled
+pub mod Chosen
+pub mod Rewired
+pub mod Ranked
+pub mod Classes
+pub mod Examples

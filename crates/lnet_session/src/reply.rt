@@ -6,27 +6,34 @@ ghost use Rattle.lnet_session.specs.Texts.{reply_text};
 use lnet_edge::Fault;
 use std::alloc::{AllocError, Global};
 
-/// Why a command was not met.
+/// Why a command was not met. The session and the files are then as before.
 #[derive(Clone, Copy, Debug, PartialEq, Eq)]
 pub enum Unmet {
+    /// A write, and no network is in place.
     NoNetwork,
+    /// A read of a content that means no circuit: the line, counted from 1 with 0 for the whole content, and the rule
+    /// that is broken there.
     Malformed(u32, Fault),
+    /// A read of a content of more than 67,108,864 bytes.
     TooLong,
 }
 
-/// What a command answers.
+/// What a command answers. It determines the line of the transcript and whether the command was met.
 #[derive(Clone, Copy, Debug, PartialEq, Eq)]
 pub enum Reply {
+    /// A network was put in place, with so many inputs, outputs and gates.
     Network {
         inputs: u32,
         outputs: u32,
         gates: u32,
     },
+    /// The network was written, in so many bytes.
     Wrote(usize),
+    /// The command was not met.
     Unmet(Unmet),
 }
 
-/// The line of the transcript.
+/// The line of the transcript, for the command of this index, counted from 1.
 pub fn text_of_reply(alloc: Global, index: u32, reply: Reply) -> Result<String, AllocError>
     ensures { IfOk result (λ text. string_bytes text ≡ reply_text index reply) }
 {

@@ -28,10 +28,12 @@ pub enum StepEnd {
     NoMemory,
 }
 
-/// Why a command was not run to its end.
+/// Why a command was not run to its end. It had no effect then.
 #[derive(Clone, Copy, Debug, PartialEq, Eq)]
 pub enum Stop {
+    /// Its own fetch or store failed.
     Fault,
+    /// Memory ran out.
     NoMemory,
 }
 
@@ -95,6 +97,7 @@ impl Session {
         Ok(answer)
     }
 
+    /// Fetches the file and puts its network in place.
     fn read_file<F: Files>(
         &mut self,
         alloc: Global,
@@ -116,6 +119,7 @@ impl Session {
         }
     }
 
+    /// Stores the text of the network under the name.
     fn write_file<F: Files>(&self, alloc: Global, name: &Name, files: &mut F) -> Result<Reply, Stop>
         ensures writes { IfOk result (λ answer. Writes (state_of self.now).network (F.contents files.old) name.now answer (F.contents files.new)) }
         ensures err { OnErr result (F.contents files.new ≡ F.contents files.old) }
@@ -140,6 +144,7 @@ impl Session {
         }
     }
 
+    /// What the command does before its line is put, and what it answers.
     fn effect<F: Files>(
         &mut self,
         alloc: Global,
@@ -197,6 +202,7 @@ impl Session {
     }
 }
 
+/// How a command ends whose line was put.
 fn end(answer: Reply) -> StepEnd
     ensures { result ≡ end_of answer }
 {

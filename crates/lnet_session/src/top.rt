@@ -60,6 +60,7 @@ fn script_word(words: &[String]) -> Option<&str>
     }
 }
 
+/// The line of a refusal.
 fn text_of_refusal(alloc: Global, refusal: Refusal) -> Result<String, AllocError>
     ensures { IfOk result (λ text. string_bytes text ≡ refusal_text refusal) }
 {
@@ -69,6 +70,7 @@ fn text_of_refusal(alloc: Global, refusal: Refusal) -> Result<String, AllocError
     }
 }
 
+/// Puts the line of a refusal.
 fn refuse<S: Sink>(alloc: Global, refusal: Refusal, out: &mut S) -> Ending
     ensures { RefusesAs refusal result (S.written out.old) (S.written out.new) (S.faults out.old) (S.faults out.new) }
 {
@@ -82,6 +84,7 @@ fn refuse<S: Sink>(alloc: Global, refusal: Refusal, out: &mut S) -> Ending
     }
 }
 
+/// Runs the script of the words, or refuses them.
 fn run_words<F: Files, S: Sink>(
     alloc: Global,
     words: &[String],
@@ -103,6 +106,7 @@ fn run_words<F: Files, S: Sink>(
     }
 }
 
+/// The status of an ending.
 fn status_of(ending: Ending) -> u8
     ensures { result ≡ status_number ending }
 {

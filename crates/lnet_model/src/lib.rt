@@ -7,6 +7,14 @@ ghost use Rattle.lnet_model.specs.Networks.{NetworkValue, IsGate, entry_at, live
 ghost use Rattle.lnet_model.specs.Along.{Acyclic, along};
 ghost use Rattle.lnet_model.specs.Values.{value_step, node_value, signal_value};
 
+mod cut;
+mod event;
+mod view_spec;
+
+pub use cut::Cut;
+pub use event::Event;
+pub use view_spec::{CutRule, ViewKind, ViewSpec};
+
 /// In a network without cycles a gate's value is its operation on its fanins' values, complemented where its phase is
 /// true.
 pub fn gate_values()

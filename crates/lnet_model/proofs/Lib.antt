@@ -3,3 +3,7 @@ pub mod Along
 pub mod Walks
 pub mod Over
 pub mod Values
+pub mod Changes
+pub mod Slots
+pub mod Fan
+pub mod Levels

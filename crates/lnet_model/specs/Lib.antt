@@ -9,3 +9,4 @@ pub mod Cuts
 pub mod Answers
 pub mod Visits
 pub mod Dags
+pub mod Slots

@@ -1,0 +1,2 @@
+pub mod StoreValues
+pub mod Held

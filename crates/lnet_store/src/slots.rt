@@ -1,0 +1,113 @@
+//! What stands at each number.
+
+ghost use Rattle.std.specs.Prelude.{◌≡◌, ◌≤◌, ◌<◌, ◌+◌, ◌↔◌, ℕ, IsTrue, IsSome, None, Some, IfOk, OnOk, OnErr, option_map, MatchOption};
+ghost use Rattle.std.specs.FinMap.{get, len, insert, remove, empty};
+ghost use Rattle.std.specs.Ordering.{nat_cmp};
+ghost use Rattle.lnet_model.specs.Networks.{Constant, Input, IsGate, gate_in};
+ghost use Rattle.lnet_model.specs.Dags.{NUMBERS};
+
+use lnet_gates::{Gate, Node};
+use std::alloc::{AllocError, Global};
+use std::marker::Model;
+
+/// What stands at a live number.
+#[derive(Drop)]
+pub(crate) enum Slot {
+    /// The constant false.
+    Constant,
+    /// The input at this place of the list of inputs.
+    Input(u32),
+    /// A gate.
+    Gate(Gate),
+}
+
+/// A slot for each number that there is room for, empty where the number isn't live.
+///
+/// No number below `floor` is free: a new node sets it past itself, and a removed node lowers it to itself.
+#[derive(Drop)]
+pub(crate) struct NodeSlots {
+    slots: Vec<Option<Slot>>,
+    live: u32,
+    numbers: u32,
+    floor: u32,
+}
+
+impl Model for NodeSlots {
+    ghost use Rattle.std.specs.Prelude.{length};
+    ghost use Rattle.lnet_store.specs.Held.{Numbered, numbered_code, held, IsCounted};
+
+    ghost Value = { Numbered };
+
+    ghost coded = { numbered_code };
+
+    ghost view = { λ s. record { nodes = held s.slots.items; room = length s.slots.items } };
+
+    ghost invariant = { λ s. IsCounted s.slots.items s.live s.numbers s.floor };
+}
+
+impl NodeSlots {
+    /// Node 0 alone, the constant.
+    pub(crate) fn new(alloc: Global) -> Result<NodeSlots, AllocError>
+        ensures { IfOk result (λ s. s.nodes ≡ insert (empty nat_cmp) 0 Constant) }
+    {
+        let mut slots = Vec::new(alloc);
+        slots.push(Some(Slot::Constant))?;
+        Ok(NodeSlots {
+            slots,
+            live: 1,
+            numbers: 1,
+            floor: 1,
+        })
+    }
+
+    /// How many numbers are live. Constant time.
+    pub(crate) fn live(&self) -> u32
+        ensures value { result ≡ len self.now.nodes }
+        ensures fits { len self.now.nodes ≤ self.now.room }
+    {
+        self.live
+    }
+
+    /// How many slots there are. Constant time.
+    pub(crate) fn room(&self) -> u32
+        ensures value { result ≡ self.now.room }
+        ensures limit { self.now.room ≤ NUMBERS }
+        ensures fits { len self.now.nodes ≤ self.now.room }
+        ensures within { (n : ℕ) → IsSome (get self.now.nodes n) → n < self.now.room }
+    {
+        self.slots.len() as u32
+    }
+
+    /// One past the greatest live number, 0 without one. Constant time.
+    pub(crate) fn numbers(&self) -> u32
+        ensures below { (n : ℕ) → IsSome (get self.now.nodes n) → n < result }
+        ensures top { (n : ℕ) → n + 1 ≡ result → IsSome (get self.now.nodes n) }
+        ensures room { result ≤ self.now.room }
+    {
+        self.numbers
+    }
+
+    /// Whether the number is live. Constant time.
+    pub(crate) fn is_live(&self, n: Node) -> bool
+        ensures { IsTrue result ↔ IsSome (get self.now.nodes n.0) }
+    {
+        matches!(self.slots.get(n.0 as usize), Some(Some(_)))
+    }
+
+    /// Whether an input stands at the number. Constant time.
+    pub(crate) fn is_input(&self, n: Node) -> bool
+        ensures { IsTrue result ↔ ((k : ℕ) × (get self.now.nodes n.0 ≡ Some (Input k))) }
+    {
+        matches!(self.slots.get(n.0 as usize), Some(Some(Slot::Input(_))))
+    }
+
+    /// The gate at the number; `None` exactly where none stands there. Constant time.
+    pub(crate) fn gate_of(&self, n: Node) -> Option<&Gate>
+        ensures { option_map (λ g. g.now) result ≡ gate_in (get self.now.nodes n.0) }
+    {
+        match self.slots.get(n.0 as usize) {
+            Some(Some(Slot::Gate(gate))) => Some(gate),
+            _ => None,
+        }
+    }
+}

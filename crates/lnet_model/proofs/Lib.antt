@@ -7,3 +7,5 @@ pub mod Changes
 pub mod Slots
 pub mod Fan
 pub mod Levels
+pub mod Numbers
+pub mod Rising

@@ -49,7 +49,7 @@ raised n = min (n + 1) (2 ^ 64 - 1)
 
 -- node 0 alone
 unfoldable pub first_network : NetworkValue
-first_network = record { kind = Klut; nodes = insert (empty nat_cmp) 0 Constant; inputs = []; outputs = [] }
+first_network = record { kind = Klut; nodes = insert empty 0 Constant; inputs = []; outputs = [] }
 
 -- N with one more input, at n
 unfoldable pub with_input : NetworkValue → ℕ → NetworkValue

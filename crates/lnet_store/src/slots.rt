@@ -1,8 +1,7 @@
 //! What stands at each number.
 
-ghost use Rattle.std.specs.Prelude.{◌≡◌, ◌≤◌, ◌<◌, ◌+◌, ◌↔◌, ℕ, IsTrue, IsSome, None, Some, IfOk, OnOk, OnErr, option_map, MatchOption};
+ghost use Rattle.std.specs.Prelude.{◌≡◌, ◌≤◌, ◌<◌, ◌+◌, ◌↔◌, ℕ, IsTrue, IsSome, None, Some, IfOk, OnOk, OnErr, option_map, slice_index_or};
 ghost use Rattle.std.specs.FinMap.{get, len, insert, remove, empty};
-ghost use Rattle.std.specs.Ordering.{nat_cmp};
 ghost use Rattle.lnet_model.specs.Networks.{Constant, Input, IsGate, gate_in};
 ghost use Rattle.lnet_model.specs.Dags.{NUMBERS};
 
@@ -19,6 +18,16 @@ pub(crate) enum Slot {
     Input(u32),
     /// A gate.
     Gate(Gate),
+}
+
+/// What stands at the number.
+fn slot_at(slots: &[Option<Slot>], n: Node) -> Option<&Slot>
+    ensures { option_map (λ s. s.now) result ≡ slice_index_or slots.now n.0 None }
+{
+    match slots.get(n.0 as usize) {
+        Some(Some(slot)) => Some(slot),
+        _ => None,
+    }
 }
 
 /// A slot for each number that there is room for, empty where the number isn't live.
@@ -48,7 +57,7 @@ impl Model for NodeSlots {
 impl NodeSlots {
     /// Node 0 alone, the constant.
     pub(crate) fn new(alloc: Global) -> Result<NodeSlots, AllocError>
-        ensures { IfOk result (λ s. s.nodes ≡ insert (empty nat_cmp) 0 Constant) }
+        ensures { IfOk result (λ s. s.nodes ≡ insert empty 0 Constant) }
     {
         let mut slots = Vec::new(alloc);
         slots.push(Some(Slot::Constant))?;
@@ -91,22 +100,22 @@ impl NodeSlots {
     pub(crate) fn is_live(&self, n: Node) -> bool
         ensures { IsTrue result ↔ IsSome (get self.now.nodes n.0) }
     {
-        matches!(self.slots.get(n.0 as usize), Some(Some(_)))
+        slot_at(&self.slots, n).is_some()
     }
 
     /// Whether an input stands at the number. Constant time.
     pub(crate) fn is_input(&self, n: Node) -> bool
         ensures { IsTrue result ↔ ((k : ℕ) × (get self.now.nodes n.0 ≡ Some (Input k))) }
     {
-        matches!(self.slots.get(n.0 as usize), Some(Some(Slot::Input(_))))
+        matches!(slot_at(&self.slots, n), Some(Slot::Input(_)))
     }
 
     /// The gate at the number; `None` exactly where none stands there. Constant time.
     pub(crate) fn gate_of(&self, n: Node) -> Option<&Gate>
         ensures { option_map (λ g. g.now) result ≡ gate_in (get self.now.nodes n.0) }
     {
-        match self.slots.get(n.0 as usize) {
-            Some(Some(Slot::Gate(gate))) => Some(gate),
+        match slot_at(&self.slots, n) {
+            Some(Slot::Gate(gate)) => Some(gate),
             _ => None,
         }
     }

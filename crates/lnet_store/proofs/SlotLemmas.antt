@@ -1,0 +1,66 @@
+-- Slots as a map, read and written.
+use Rattle.std.proofs.Common.{◌≡◌, ℕ, zero, suc, ◌<◌, true, false, List, [], ◌∷◌, ◌++◌, map, length, replicate, IsSome, Option, None, Some, get_or, refl, sym, ap, subst, ◌∙◌, arith}
+use Rattle.std.proofs.Math.ListN.{set}
+use Rattle.std.proofs.lemmas.Cmp.{nat_cmp_total}
+use Rattle.std.specs.Ordering.{nat_cmp}
+use Rattle.std.specs.FinMap.{FinMap, get, insert, remove, same_map, nat_cmp-IsAntisymmetric}
+use Rattle.lnet_model.specs.Networks.{Entry, IsGate}
+use Rattle.lnet_gates.specs.Gates.{GateValue}
+use Rattle.lnet_model.specs.Slots.{nodes_of}
+use Rattle.lnet_model.proofs.Slots.{get-nodes_of, set-insert, set-remove}
+use Rattle.lnet_store.specs.Held.{entry_of, entry_in, held}
+use Rattle.lnet_store.specs.declared.slots.Slot.{Slot}
+use Rattle.lnet_store.specs.declared.slots.Slot.TheVariants as slot
+
+map-entry : (slots : List (Option Slot)) (n : ℕ) → get_or (map entry_in slots) n None ≡ entry_in (get_or slots n None)
+map-entry [] n = refl
+map-entry (o ∷ os) zero = refl
+map-entry (o ∷ os) (suc n) = map-entry os n
+
+map-set : (slots : List (Option Slot)) (n : ℕ) (o : Option Slot) → map entry_in (set slots n o) ≡ set (map entry_in slots) n (entry_in o)
+map-set [] n o = refl
+map-set (s ∷ ss) zero o = refl
+map-set (s ∷ ss) (suc n) o = ap (λ zs. entry_in s ∷ zs) (map-set ss n o)
+
+length-map : (slots : List (Option Slot)) → length (map entry_in slots) ≡ length slots
+length-map [] = refl
+length-map (o ∷ os) = ap suc (length-map os)
+
+pub get-held : (slots : List (Option Slot)) (n : ℕ) → get (held slots) n ≡ entry_in (get_or slots n None)
+unfolding held
+get-held slots n = get-nodes_of (map entry_in slots) n ∙ map-entry slots n
+
+pub held-set : (slots : List (Option Slot)) (n : ℕ) (s : Slot) → n < length slots → held (set slots n (Some s)) ≡ insert (held slots) n (entry_of s)
+unfolding held
+held-set slots n s h =
+    let e = length-map slots in
+    let k : n < length (map entry_in slots) = omega arith in
+    ap nodes_of (map-set slots n (Some s)) ∙ set-insert (map entry_in slots) n (entry_of s) k
+
+pub held-clear : (slots : List (Option Slot)) (n : ℕ) → n < length slots → held (set slots n None) ≡ remove (held slots) n
+unfolding held
+held-clear slots n h =
+    let e = length-map slots in
+    let k : n < length (map entry_in slots) = omega arith in
+    ap nodes_of (map-set slots n None) ∙ set-remove (map entry_in slots) n k
+
+inside : (slots : List (Option Slot)) (n : ℕ) → IsSome (entry_in (get_or slots n None)) → n < length slots
+inside [] n h = let z : false ≡ true = h in cc
+inside (o ∷ os) zero h = omega arith
+inside (o ∷ os) (suc n) h = let k = inside os n h in omega (arith, k)
+
+pub held-inside : (slots : List (Option Slot)) (n : ℕ) → IsSome (get (held slots) n) → n < length slots
+held-inside slots n h = inside slots n (subst IsSome (get-held slots n) h)
+
+none-on : (k n : ℕ) → get_or {A = Option Slot} (replicate k None) n None ≡ None
+none-on zero n = refl
+none-on (suc k) zero = refl
+none-on (suc k) (suc n) = none-on k n
+
+grown-at : (slots : List (Option Slot)) (k n : ℕ) → get_or (slots ++ replicate k None) n None ≡ get_or slots n None
+grown-at [] k n = none-on k n
+grown-at (o ∷ os) k zero = refl
+grown-at (o ∷ os) k (suc n) = grown-at os k n
+
+pub held-grown : (slots : List (Option Slot)) (k : ℕ) → held (slots ++ replicate k None) ≡ held slots
+held-grown slots k = same_map nat_cmp_total nat_cmp-IsAntisymmetric _ _ (λ q. get-held (slots ++ replicate k None) q ∙ ap entry_in (grown-at slots k q) ∙ sym (get-held slots q))

@@ -1,9 +1,9 @@
 -- One past the greatest live number, by a bound that is met.
-use Rattle.std.proofs.Common.{◌≡◌, ℕ, zero, suc, ◌+◌, ◌<◌, ◌≤◌, max, Bool, true, false, cond, ◌||◌, List, [], ◌∷◌, map, IsSome, is_some, refl, sym, ap, subst, ◌∙◌, inl, inr, arith, eqb}
+use Rattle.std.proofs.Common.{◌≡◌, ℕ, zero, suc, ◌+◌, ◌<◌, ◌≤◌, max, true, false, ◌||◌, List, [], ◌∷◌, map, refl, sym, ap, subst, ◌∙◌, inl, inr, arith}
 use Rattle.std.proofs.lemmas.Bool.Decides.{eqb_tells}
 use Rattle.std.specs.List.{list_any}
 use Rattle.std.specs.Ordering.{nat_cmp, eq_by_cmp}
-use Rattle.std.specs.FinMap.{get, keys, contains_key-keys}
+use Rattle.std.specs.FinMap.{keys, contains_key-keys}
 use Rattle.lnet_model.specs.Networks.{NetworkValue, IsLive, entry_at}
 use Rattle.lnet_model.specs.Levels.{greatest}
 use Rattle.lnet_model.specs.Dags.{AreBelow, numbers_of}

@@ -1,5 +1,5 @@
 -- The entries of a network number by number.
-use Rattle.std.proofs.Common.{◌≡◌, ◌≢◌, ℕ, zero, suc, ◌+◌, ◌<◌, ◌≤◌, Bool, true, false, cond, ◌&&◌, List, [], ◌∷◌, ◌++◌, Option, None, Some, refl, sym, ap, subst, ◌∙◌, inl, inr, arith, T, IsSome}
+use Rattle.std.proofs.Common.{◌≡◌, ◌≢◌, ℕ, zero, suc, ◌+◌, ◌<◌, ◌≤◌, Bool, true, false, cond, ◌&&◌, List, [], ◌∷◌, ◌++◌, None, Some, refl, sym, ap, subst, ◌∙◌, inl, inr, arith, T, IsSome}
 use Rattle.std.specs.Prelude.{⊤}
 use Rattle.std.specs.List.{flat_map}
 use Rattle.std.proofs.lemmas.Bool.Decides.{eqb_tells}
@@ -51,7 +51,7 @@ under-found : (b : ℕ) (es : List (ℕ × Entry)) → ((q : ℕ) → IsSome (fi
 under-found b [] h = tt
 under-found b (e ∷ es) h = (
   h e.0 (subst (λ t. IsSome (cond t (Some e.1) (find nat_cmp e.0 es))) (sym (tied e.0)) refl),
-  under-found b es (λ q i. h q (elim (eq_by_cmp nat_cmp q e.0) as (λ t. IsSome (cond t (Some e.1) (find nat_cmp q es))) [ true ↦ refl | false ↦ i ]))
+  under-found b es (λ q i. h q (elim (eq_by_cmp nat_cmp q e.0) as (λ t. IsSome (cond t (Some e.1) (find nat_cmp q es))) [ true ↦ refl | false ↦ i ])),
 )
 
 find-under : (q a : ℕ) (es : List (ℕ × Entry)) → q < a → Rising a es → find nat_cmp q es ≡ None

@@ -1,14 +1,13 @@
 -- Slots as a map, read and written.
-use Rattle.std.proofs.Common.{◌≡◌, ℕ, zero, suc, ◌<◌, true, false, List, [], ◌∷◌, ◌++◌, map, length, replicate, IsSome, Option, None, Some, get_or, refl, sym, ap, subst, ◌∙◌, arith}
+use Rattle.std.proofs.Common.{◌≡◌, ℕ, zero, suc, ◌+◌, ◌<◌, ◌≤◌, cond, is_some, lit≤, true, false, List, [], ◌∷◌, ◌++◌, map, length, replicate, IsSome, Option, None, Some, get_or, refl, sym, ap, subst, ◌∙◌, arith}
 use Rattle.std.proofs.Math.ListN.{set}
 use Rattle.std.proofs.lemmas.Cmp.{nat_cmp_total}
 use Rattle.std.specs.Ordering.{nat_cmp}
-use Rattle.std.specs.FinMap.{FinMap, get, insert, remove, same_map, nat_cmp-IsAntisymmetric}
-use Rattle.lnet_model.specs.Networks.{Entry, IsGate}
-use Rattle.lnet_gates.specs.Gates.{GateValue}
+use Rattle.std.specs.FinMap.{FinMap, get, len, len-insert, len-empty, get-empty, empty, insert, remove, same_map, nat_cmp-IsAntisymmetric}
+use Rattle.lnet_model.specs.Networks.{Entry, Constant}
 use Rattle.lnet_model.specs.Slots.{nodes_of}
 use Rattle.lnet_model.proofs.Slots.{get-nodes_of, set-insert, set-remove}
-use Rattle.lnet_store.specs.Held.{entry_of, entry_in, held}
+use Rattle.lnet_store.specs.Held.{entry_of, entry_in, held, IsCounted}
 use Rattle.lnet_store.specs.declared.slots.Slot.{Slot}
 use Rattle.lnet_store.specs.declared.slots.Slot.TheVariants as slot
 
@@ -64,3 +63,35 @@ grown-at (o ∷ os) k (suc n) = grown-at os k n
 
 pub held-grown : (slots : List (Option Slot)) (k : ℕ) → held (slots ++ replicate k None) ≡ held slots
 held-grown slots k = same_map nat_cmp_total nat_cmp-IsAntisymmetric _ _ (λ q. get-held (slots ++ replicate k None) q ∙ ap entry_in (grown-at slots k q) ∙ sym (get-held slots q))
+
+pub read-held : (slots : List (Option Slot)) (m : FinMap nat_cmp Entry) (n : ℕ) → held slots ≡ m → entry_in (get_or slots n None) ≡ get m n
+read-held slots m n e = sym (get-held slots n) ∙ ap (λ m. get m n) e
+
+-- ---- how the numbers are counted
+
+pub numbers-fit : (slots : List (Option Slot)) (live numbers floor : ℕ) → IsCounted slots live numbers floor → numbers ≤ length slots
+numbers-fit slots live zero floor c = omega arith
+numbers-fit slots live (suc n) floor c = let e : n + 1 ≡ suc n = omega arith in let h = held-inside slots n (c.top n e) in omega arith
+
+pub held-first : held (Some slot.Constant ∷ []) ≡ insert empty 0 Constant
+unfolding held nodes_of
+held-first = refl
+
+count-first : len (held (Some slot.Constant ∷ [])) ≡ 1
+count-first =
+    let none = ap (λ o. cond (is_some o) (len (empty {K = ℕ} {X = Entry} {R = nat_cmp})) (len (empty {K = ℕ} {X = Entry} {R = nat_cmp}) + 1)) (get-empty {X = Entry} nat_cmp 0) in
+    let zero_len = len-empty {K = ℕ} nat_cmp Entry in
+    ap len held-first ∙ len-insert nat_cmp_total (empty {K = ℕ} {X = Entry} {R = nat_cmp}) 0 Constant ∙ none ∙ ap (λ z. z + 1) zero_len
+
+here : IsSome (get (held (Some slot.Constant ∷ [])) 0)
+here = subst IsSome (sym (get-held (Some slot.Constant ∷ []) 0)) refl
+
+pub counted-first : IsCounted (Some slot.Constant ∷ []) 1 1 1
+counted-first = record {
+  counted = sym count-first;
+  below = λ n h. held-inside (Some slot.Constant ∷ []) n h;
+  top = λ n e. subst (λ z. IsSome (get (held (Some slot.Constant ∷ [])) z)) (let z : 0 ≡ n = omega arith in z) here;
+  none_free = λ n h. subst (λ z. IsSome (get (held (Some slot.Constant ∷ [])) z)) (let z : 0 ≡ n = omega arith in z) here;
+  fits = omega arith;
+  within = lit≤ tt;
+}

@@ -6,9 +6,9 @@ use Rattle.std.specs.FinMap.{FinMap, empty, insert}
 use Rattle.lnet_gates.specs.declared.gate.Kind.TheVariants.{Klut}
 use Rattle.lnet_gates.specs.declared.signal.Node.{Node}
 use Rattle.lnet_gates.specs.declared.signal.Signal.{Signal}
-use Rattle.lnet_model.specs.Networks.{NetworkValue, Entry, Constant, Input, entry_at, fanins_of}
+use Rattle.lnet_model.specs.Networks.{NetworkValue, Lookup, Entry, Constant, Input, entry_at, fanins_of}
 use Rattle.lnet_model.specs.Along.{at_entry}
-use Rattle.lnet_model.specs.Dags.{numbers_of}
+use Rattle.lnet_model.specs.Dags.{numbers_of, NUMBERS}
 use Rattle.lnet_model.specs.Fanouts.{slots_naming}
 use Rattle.lnet_model.specs.Code.{network_code}
 
@@ -26,9 +26,10 @@ store_code = code_by (NetworkValue × (ℕ × ℕ)) (coded× network_code (coded
 unfoldable pub network_of : FinMap nat_cmp Entry → List Node → List Signal → NetworkValue
 network_of nodes inputs outputs = record { kind = Klut; nodes = nodes; inputs = map (λ (n : Node). n.0) inputs; outputs = outputs }
 
--- memory for each number below the room: a place for an input, an unset mark and a place of the queue
-pub record HasRoom (room inputs : ℕ) (marks : List Bool) (queue : List ℕ) : Type 0 where
-  pub inputs_fit : room ≤ inputs
+-- memory for each number below the room: places for inputs, an unset mark and a place of the queue
+pub record HasRoom (room places : ℕ) (inputs : List Node) (marks : List Bool) (queue : List ℕ) : Type 0 where
+  pub inputs_fit : room ≤ places
+  pub few_inputs : length inputs ≤ NUMBERS
   pub marks_fit : room ≤ length marks
   pub unmarked : (n : ℕ) → slice_index_or marks n false ≡ false
   pub queue_fits : room ≤ length queue
@@ -68,15 +69,15 @@ abbrev pub IsOneOf : ℕ × ℕ → List (ℕ × ℕ) → Type 0
 IsOneOf p [] = ⊥
 IsOneOf p (q ∷ qs) = (p ≡ q) ⊎ IsOneOf p qs
 
--- the slots of the gate at m, from slot j on, whose fanin is n
-abbrev pub named_from : NetworkValue → ℕ → ℕ → ℕ → List (ℕ × ℕ)
-named_from N n m j = slots_naming n m j (drop j (at_entry [] fanins_of (entry_at N m)))
+-- the slots of the gate at m, from slot j on, whose fanin is n: each as m and the slot
+abbrev pub named_from : Lookup → ℕ → ℕ → ℕ → List (ℕ × ℕ)
+named_from g n m j = slots_naming n m j (drop j (at_entry [] fanins_of (g m)))
 
 -- those of so many numbers from m on
-abbrev pub named_after : NetworkValue → ℕ → ℕ → ℕ → List (ℕ × ℕ)
-named_after N n m zero = []
-named_after N n m (suc k) = named_from N n m 0 ++ named_after N n (suc m) k
+abbrev pub named_after : Lookup → ℕ → ℕ → ℕ → List (ℕ × ℕ)
+named_after g n m zero = []
+named_after g n m (suc k) = named_from g n m 0 ++ named_after g n (suc m) k
 
 -- those of m from slot j on, and of all numbers past m
 unfoldable pub named_still : NetworkValue → ℕ → ℕ → ℕ → List (ℕ × ℕ)
-named_still N n m j = named_from N n m j ++ named_after N n (suc m) (numbers_of N - suc m)
+named_still N n m j = named_from (entry_at N) n m j ++ named_after (entry_at N) n (suc m) (numbers_of N - suc m)

@@ -1,11 +1,11 @@
 //! Readers of a store that count what they read.
 
-ghost use Rattle.std.specs.Prelude.{◌≡◌, ℕ, ◌≤◌, ◌<◌, ◌∷◌, [], ◌↔◌, option_map, length, slice_get, MatchOption, OnSome, IsTrue};
+ghost use Rattle.std.specs.Prelude.{◌≡◌, ℕ, ◌≤◌, ◌<◌, ◌∷◌, [], ◌↔◌, option_map, length, slice_get, MatchOption, OnSome, IfSome, IsTrue, ◌+◌};
 ghost use Rattle.lnet_model.specs.Networks.{IsLive, entry_at, fanins_of, gate_at, live_count};
 ghost use Rattle.lnet_model.specs.Along.{at_entry};
 ghost use Rattle.lnet_model.specs.Fanouts.{fan};
 ghost use Rattle.lnet_model.specs.Dags.{IsStored, NUMBERS};
-ghost use Rattle.lnet_store.specs.StoreValues.{raised, IsOneOf};
+ghost use Rattle.lnet_store.specs.StoreValues.{raised, named_still, IsOneOf};
 
 use crate::store::Store;
 use lnet_gates::{Gate, Node, Signal};
@@ -153,6 +153,26 @@ fn fanin_at(store: &Store, n: u32, slot: u8) -> Option<Signal>
     gate.fanins.get(slot as usize).copied()
 }
 
+/// From a slot of the gate at a number on, the next slot whose fanin is the node.
+fn next_named(store: &Store, n: Node, at: u32, slot: u8) -> Option<(u32, u8)>
+    requires { slot ≤ 6 }
+    ensures found { MatchOption result (named_still store.now.network n.0 at slot ≡ []) (λ p. named_still store.now.network n.0 at slot ≡ p ∷ named_still store.now.network n.0 p.0 (p.1 + 1)) }
+    ensures six { IfSome result (λ p. p.1 < 6) }
+{
+    let (mut at, mut slot) = (at, slot);
+    'slots: while at < store.numbers() {
+        match fanin_at(store, at, slot) {
+            Some(fanin) if fanin.node.0 == n.0 => return Some((at, slot)),
+            Some(_) => slot += 1,
+            None => {
+                at += 1;
+                slot = 0;
+            }
+        }
+    }
+    None
+}
+
 impl<'a> Parents<'a> {
     /// The next parent and slot; `None` exactly where all were given. Each pair that is given counts as one read, for the
     /// stamp of the store that is read. Going over all of them is linear in the store's numbers and fanins.
@@ -163,22 +183,14 @@ impl<'a> Parents<'a> {
         ensures stamp { visits.new.stamp ≡ visits.old.stamp }
         ensures count { MatchOption result (visits.new.count ≡ visits.old.count) (λ _. visits.new.count ≡ raised visits.old.count) }
     {
-        'slots: while self.at < self.store.numbers() {
-            let (at, slot) = (self.at, self.slot);
-            match fanin_at(self.store, at, slot) {
-                Some(fanin) => {
-                    self.slot = slot + 1;
-                    if fanin.node.0 == self.node.0 {
-                        visits.count_one();
-                        return Some((Node(at), slot));
-                    }
-                }
-                None => {
-                    self.at = at + 1;
-                    self.slot = 0;
-                }
+        match next_named(self.store, self.node, self.at, self.slot) {
+            Some((at, slot)) => {
+                self.at = at;
+                self.slot = slot + 1;
+                visits.count_one();
+                Some((Node(at), slot))
             }
+            None => None,
         }
-        None
     }
 }

@@ -4,6 +4,7 @@ ghost use Rattle.std.specs.Prelude.{◌≡◌, ◌≤◌, ◌<◌, ◌+◌, ◌�
 ghost use Rattle.std.specs.FinMap.{get, len, insert, remove, empty};
 ghost use Rattle.lnet_model.specs.Networks.{Constant, Input, IsGate, gate_in};
 ghost use Rattle.lnet_model.specs.Dags.{NUMBERS};
+ghost use Rattle.lnet_store.specs.Held.{entry_of};
 
 use lnet_gates::{Gate, Node};
 use std::alloc::{AllocError, Global};
@@ -57,7 +58,8 @@ impl Model for NodeSlots {
 impl NodeSlots {
     /// Node 0 alone, the constant.
     pub(crate) fn new(alloc: Global) -> Result<NodeSlots, AllocError>
-        ensures { IfOk result (λ s. s.nodes ≡ insert empty 0 Constant) }
+        ensures nodes { IfOk result (λ s. s.nodes ≡ insert empty 0 Constant) }
+        ensures room { IfOk result (λ s. s.room ≡ 1) }
     {
         let mut slots = Vec::new(alloc);
         slots.push(Some(Slot::Constant))?;
@@ -73,6 +75,7 @@ impl NodeSlots {
     pub(crate) fn live(&self) -> u32
         ensures value { result ≡ len self.now.nodes }
         ensures fits { len self.now.nodes ≤ self.now.room }
+        ensures limit { len self.now.nodes ≤ NUMBERS }
     {
         self.live
     }
@@ -96,25 +99,32 @@ impl NodeSlots {
         self.numbers
     }
 
+    /// What stands at the number; `None` exactly where it isn't live. Constant time.
+    pub(crate) fn at(&self, n: Node) -> Option<&Slot>
+        ensures { option_map (λ s. entry_of s.now) result ≡ get self.now.nodes n.0 }
+    {
+        slot_at(&self.slots, n)
+    }
+
     /// Whether the number is live. Constant time.
     pub(crate) fn is_live(&self, n: Node) -> bool
         ensures { IsTrue result ↔ IsSome (get self.now.nodes n.0) }
     {
-        slot_at(&self.slots, n).is_some()
+        self.at(n).is_some()
     }
 
     /// Whether an input stands at the number. Constant time.
     pub(crate) fn is_input(&self, n: Node) -> bool
         ensures { IsTrue result ↔ ((k : ℕ) × (get self.now.nodes n.0 ≡ Some (Input k))) }
     {
-        matches!(slot_at(&self.slots, n), Some(Slot::Input(_)))
+        matches!(self.at(n), Some(Slot::Input(_)))
     }
 
     /// The gate at the number; `None` exactly where none stands there. Constant time.
     pub(crate) fn gate_of(&self, n: Node) -> Option<&Gate>
         ensures { option_map (λ g. g.now) result ≡ gate_in (get self.now.nodes n.0) }
     {
-        match slot_at(&self.slots, n) {
+        match self.at(n) {
             Some(Slot::Gate(gate)) => Some(gate),
             _ => None,
         }

@@ -49,7 +49,7 @@ impl Model for Store {
 
     ghost view = { λ s. record { network = network_of s.nodes.nodes s.inputs.items s.outputs.items; spare = s.nodes.room - len s.nodes.nodes; stamp = s.stamp } };
 
-    ghost invariant = { λ s. IsStored (network_of s.nodes.nodes s.inputs.items s.outputs.items) × HasRoom s.nodes.room (vec_capacity s.inputs) s.marks.items s.queue.items };
+    ghost invariant = { λ s. IsStored (network_of s.nodes.nodes s.inputs.items s.outputs.items) × HasRoom s.nodes.room (vec_capacity s.inputs) s.inputs.items s.marks.items s.queue.items };
 }
 
 impl Store {
@@ -60,8 +60,10 @@ impl Store {
     {
         let nodes = NodeSlots::new(alloc)?;
         let inputs = Vec::with_capacity(alloc, 1)?;
-        let marks = vec![in alloc; false; 1]?;
-        let queue = vec![in alloc; 0; 1]?;
+        let mut marks = Vec::new(alloc);
+        marks.push(false)?;
+        let mut queue = Vec::new(alloc);
+        queue.push(0)?;
         Ok(Store {
             nodes,
             inputs,
@@ -101,8 +103,12 @@ impl Store {
     }
 
     /// How many numbers are live: the constant, the inputs and the gates. Constant time.
+    ///
+    /// The clauses but `value` are what every store keeps.
     pub fn live_count(&self) -> u32
-        ensures { result ≡ live_count self.now.network }
+        ensures value { result ≡ live_count self.now.network }
+        ensures limit { live_count self.now.network ≤ NUMBERS }
+        ensures stored { IsStored self.now.network }
     {
         self.nodes.live()
     }

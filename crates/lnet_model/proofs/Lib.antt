@@ -9,3 +9,4 @@ pub mod Fan
 pub mod Levels
 pub mod Numbers
 pub mod Rising
+pub mod Stored

@@ -10,3 +10,4 @@ pub mod Levels
 pub mod Numbers
 pub mod Rising
 pub mod Stored
+pub mod References

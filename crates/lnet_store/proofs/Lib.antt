@@ -1,3 +1,4 @@
 pub mod SlotLemmas
 pub mod ParentLemmas
 pub mod StoreLemmas
+pub mod CountLemmas

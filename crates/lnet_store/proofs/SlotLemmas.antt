@@ -1,9 +1,14 @@
 -- Slots as a map, read and written.
-use Rattle.std.proofs.Common.{◌≡◌, ℕ, zero, suc, ◌+◌, ◌<◌, ◌≤◌, cond, is_some, lit≤, true, false, List, [], ◌∷◌, ◌++◌, map, length, replicate, IsSome, Option, None, Some, get_or, refl, sym, ap, subst, ◌∙◌, arith}
+use Rattle.std.proofs.Common.{◌≢◌, max, inl, inr, length-set, length-append, ◌≡◌, ℕ, zero, suc, ◌+◌, ◌<◌, ◌≤◌, cond, is_some, lit≤, true, false, List, [], ◌∷◌, ◌++◌, map, length, replicate, IsSome, Option, None, Some, get_or, refl, sym, ap, subst, ◌∙◌, arith}
 use Rattle.std.proofs.Math.ListN.{set}
+use Rattle.std.proofs.lemmas.List.{length-replicate}
 use Rattle.std.proofs.lemmas.Cmp.{nat_cmp_total}
 use Rattle.std.specs.Ordering.{nat_cmp}
 use Rattle.std.specs.FinMap.{FinMap, get, len, len-insert, len-empty, get-empty, empty, insert, remove, same_map, nat_cmp-IsAntisymmetric}
+use Rattle.std.proofs.lemmas.Bool.Decides.{eqb_tells}
+use Rattle.lnet_model.specs.Along.{In}
+use Rattle.lnet_model.specs.Dags.{NUMBERS}
+use Rattle.lnet_model.proofs.Map.{Apart, count_apart, insert_here, insert_apart, remove_here, remove_apart}
 use Rattle.lnet_model.specs.Networks.{Entry, Constant}
 use Rattle.lnet_model.specs.Slots.{nodes_of}
 use Rattle.lnet_model.proofs.Slots.{get-nodes_of, set-insert, set-remove}
@@ -95,3 +100,89 @@ counted-first = record {
   fits = omega arith;
   within = lit≤ tt;
 }
+
+-- ---- numbers that are live
+
+downto : ℕ → List ℕ
+downto zero = []
+downto (suc n) = n ∷ downto n
+
+in-downto : (n x : ℕ) → In x (downto n) → x < n
+unfolding downto
+in-downto zero x i = absurd i
+in-downto (suc n) x (inl e) = omega arith
+in-downto (suc n) x (inr i) = let h = in-downto n x i in omega arith
+
+apart-downto : (n : ℕ) → Apart (downto n)
+unfolding downto
+apart-downto zero = tt
+apart-downto (suc n) = (λ i. let h = in-downto n n i in absurd (omega arith), apart-downto n)
+
+length-downto : (n : ℕ) → length (downto n) ≡ n
+unfolding downto
+length-downto zero = refl
+length-downto (suc n) = ap suc (length-downto n)
+
+-- where each number below n is live, there are n at least
+pub all-live : (m : FinMap nat_cmp Entry) (n : ℕ) → ((k : ℕ) → k < n → IsSome (get m k)) → n ≤ len m
+all-live m n live =
+    let few = count_apart (downto n) m (apart-downto n) (λ x i. live x (in-downto n x i)) in
+    let e = length-downto n in
+    omega arith
+
+module _ (slots : List (Option Slot)) (live numbers floor : ℕ) (c : IsCounted slots live numbers floor) (n : ℕ) (s : Slot) (free : get (held slots) n ≡ None) (least : (m : ℕ) → m < n → IsSome (get (held slots) m)) (space : len (held slots) < length slots) where
+  pub free-inside : n < length slots
+  free-inside = let h = all-live (held slots) n least in omega arith
+
+  filled-here : IsSome (get (held (set slots n (Some s))) n)
+  filled-here = subst IsSome (sym (ap (λ m. get m n) (held-set slots n s free-inside) ∙ insert_here (held slots) n (entry_of s))) refl
+
+  filled-apart : (m : ℕ) → m ≢ n → get (held (set slots n (Some s))) m ≡ get (held slots) m
+  filled-apart m ne = ap (λ z. get z m) (held-set slots n s free-inside) ∙ insert_apart (held slots) n (entry_of s) m ne
+
+  filled-live : (m : ℕ) → IsSome (get (held slots) m) → IsSome (get (held (set slots n (Some s))) m)
+  filled-live m h = elim (eqb_tells m n) as (λ _. IsSome (get (held (set slots n (Some s))) m)) [
+    | inl p ↦ subst (λ z. IsSome (get (held (set slots n (Some s))) z)) (sym p.1) filled-here
+    | inr p ↦ subst IsSome (sym (filled-apart m p.1)) h
+  ]
+
+  pub counted-filled : IsCounted (set slots n (Some s)) (live + 1) (max numbers (n + 1)) (n + 1)
+  counted-filled =
+      let same = length-set slots n (Some s) in
+      let more = ap len (held-set slots n s free-inside) ∙ len-insert nat_cmp_total (held slots) n (entry_of s) ∙ ap (λ o. cond (is_some o) (len (held slots)) (len (held slots) + 1)) free in
+      let old = c.counted in
+      let cap = c.within in
+      record {
+        counted = omega arith;
+        below = λ m h. elim (eqb_tells m n) as (λ _. m < max numbers (n + 1)) [
+          | inl p ↦ (let e = p.1 in omega arith)
+          | inr p ↦ (let lt = c.below m (subst IsSome (filled-apart m p.1) h) in omega arith)
+        ];
+        top = λ m e. elim (eqb_tells m n) as (λ _. IsSome (get (held (set slots n (Some s))) m)) [
+          | inl p ↦ subst (λ z. IsSome (get (held (set slots n (Some s))) z)) (sym p.1) filled-here
+          | inr p ↦ filled-live m (c.top m (let ne = p.1 in omega arith))
+        ];
+        none_free = λ m h. elim (eqb_tells m n) as (λ _. IsSome (get (held (set slots n (Some s))) m)) [
+          | inl p ↦ subst (λ z. IsSome (get (held (set slots n (Some s))) z)) (sym p.1) filled-here
+          | inr p ↦ filled-live m (least m (let ne = p.1 in omega arith))
+        ];
+        fits = omega arith;
+        within = subst (λ z. z ≤ NUMBERS) (sym same) cap;
+      }
+
+-- ---- more slots
+
+pub counted-grown : (slots : List (Option Slot)) (live numbers floor k : ℕ) → IsCounted slots live numbers floor → length slots + k ≤ NUMBERS → IsCounted (slots ++ replicate k None) live numbers floor
+counted-grown slots live numbers floor k c le =
+    let e = held-grown slots k in
+    let more = length-append slots (replicate k None) in
+    let reps = length-replicate {A = Option Slot} k None in
+    let old = c.fits in
+    record {
+      counted = c.counted ∙ ap len (sym e);
+      below = λ n h. c.below n (subst (λ m. IsSome (get m n)) e h);
+      top = λ n h. subst (λ m. IsSome (get m n)) (sym e) (c.top n h);
+      none_free = λ n h. subst (λ m. IsSome (get m n)) (sym e) (c.none_free n h);
+      fits = omega arith;
+      within = omega arith;
+    }

@@ -1,17 +1,19 @@
 -- A store's fields as its network.
-use Rattle.std.proofs.Common.{cond, eqb, true, false, lit<, ◌≡◌, ℕ, zero, suc, ◌<◌, List, [], ◌∷◌, map, length, IsSome, IfSome, Option, None, Some, slice_get, inl, inr, refl, sym, ap, subst, ◌∙◌, arith}
+use Rattle.std.proofs.Common.{Result, Ok, Err, OnOk, Bool, ◌≤◌, get_or, ◌++◌, slice_index, cond, eqb, true, false, lit<, ◌≡◌, ℕ, zero, suc, ◌<◌, List, [], ◌∷◌, map, length, IsSome, IfSome, Option, None, Some, slice_get, inl, inr, refl, sym, ap, subst, ◌∙◌, arith}
 use Rattle.std.specs.Option.{option_map}
 use Rattle.std.specs.Ordering.{nat_cmp}
 use Rattle.std.specs.FinMap.{FinMap, get, len, insert, empty, get-empty}
 use Rattle.std.proofs.lemmas.Bool.Decides.{eqb_tells}
 use Rattle.lnet_gates.specs.Gates.{GateValue}
+use Rattle.lnet_model.specs.Fanouts.{fan, references, slots_naming}
+use Rattle.lnet_model.proofs.Rising.{entries-by_number}
 use Rattle.lnet_model.proofs.Map.{insert_here, insert_apart}
 use Rattle.lnet_gates.specs.declared.signal.Node.{Node}
 use Rattle.lnet_gates.specs.declared.signal.Signal.{Signal}
-use Rattle.lnet_model.specs.Networks.{Entry, Constant, Input, IsGate, NetworkValue, entry_at, live_count, IsLive}
-use Rattle.lnet_model.specs.Along.{In, nodes_read, fanin_nodes}
+use Rattle.lnet_model.specs.Networks.{fanins_of, Entry, Constant, Input, IsGate, NetworkValue, entry_at, live_count, IsLive}
+use Rattle.lnet_model.specs.Along.{at_entry, In, nodes_read, fanin_nodes}
 use Rattle.lnet_model.specs.Dags.{IsStored, AreBelow, NUMBERS}
-use Rattle.lnet_store.specs.StoreValues.{network_of, first_network}
+use Rattle.lnet_store.specs.StoreValues.{network_of, first_network, AreReferences, HasRoom}
 
 module _ (nodes : FinMap nat_cmp Entry) (inputs : List Node) (outputs : List Signal) (N : NetworkValue) (is : network_of nodes inputs outputs ≡ N) where
   pub entry-of : (n : ℕ) → get nodes n ≡ entry_at N n
@@ -96,3 +98,47 @@ first-stored = record {
 pub network-first : (nodes : FinMap nat_cmp Entry) (inputs : List Node) (outputs : List Signal) → nodes ≡ insert empty 0 Constant → inputs ≡ [] → outputs ≡ [] → network_of nodes inputs outputs ≡ first_network
 unfolding network_of first_network
 network-first nodes inputs outputs e i o = ap (λ m. network_of m inputs outputs) e ∙ ap (λ is. network_of first_nodes is outputs) i ∙ ap (λ os. network_of first_nodes [] os) o
+
+no-fan : (n : ℕ) → fan first_network n ≡ []
+unfolding fan first_network entry_at
+no-fan n =
+    entries-by_number (λ m e. slots_naming n m 0 (fanins_of e)) first_nodes 1 (λ q h. elim (eqb_tells q 0) as (λ _. q < 1) [
+      | inl p ↦ (let e = p.1 in omega arith)
+      | inr p ↦ absurd (let z : false ≡ true = subst IsSome (first-entry q ∙ ap (λ b. cond b (Some Constant) None) p.0) h in cc)
+    ])
+    ∙ ap (λ o. at_entry [] (λ e. slots_naming n 0 0 (fanins_of e)) o ++ []) (first-entry 0)
+
+first-named : (n : ℕ) → references first_network n ≡ 0
+unfolding references first_network
+first-named n = let e = ap (λ zs. length zs) (no-fan n) in omega arith
+
+zeros : (n : ℕ) → slice_index (0 ∷ []) n ≡ 0
+zeros zero = refl
+zeros (suc n) = refl
+
+pub first-references : AreReferences (0 ∷ []) first_network
+unfolding AreReferences
+first-references n = zeros n ∙ sym (first-named n)
+
+-- ---- more memory
+
+pub room-more : (room room2 places places2 : ℕ) (inputs inputs2 : List Node) (counts counts2 : List ℕ) (marks marks2 : List Bool) (queue queue2 : List ℕ) → HasRoom room places inputs counts marks queue → room2 ≤ places2 → inputs2 ≡ inputs → room2 ≤ length counts2 → room2 ≤ length marks2 → ((k : ℕ) → get_or marks2 k false ≡ get_or marks k false) → room2 ≤ length queue2 → HasRoom room2 places2 inputs2 counts2 marks2 queue2
+room-more room room2 places places2 inputs inputs2 counts counts2 marks marks2 queue queue2 h p i c m same q = record {
+  inputs_fit = p;
+  few_inputs = subst (λ (xs : List Node). length xs ≤ NUMBERS) (sym i) h.few_inputs;
+  counts_fit = c;
+  marks_fit = m;
+  unmarked = λ k. same k ∙ h.unmarked k;
+  queue_fits = q;
+}
+
+pub network-same : (nodes nodes2 : FinMap nat_cmp Entry) (inputs inputs2 : List Node) (outputs : List Signal) → nodes2 ≡ nodes → inputs2 ≡ inputs → network_of nodes2 inputs2 outputs ≡ network_of nodes inputs outputs
+network-same nodes nodes2 inputs inputs2 outputs e i = ap (λ m. network_of m inputs2 outputs) e ∙ ap (λ is. network_of nodes is outputs) i
+
+pub counts-same : (counts counts2 : List ℕ) (N : NetworkValue) → ((k : ℕ) → slice_index counts2 k ≡ slice_index counts k) → AreReferences counts N → AreReferences counts2 N
+unfolding AreReferences
+counts-same counts counts2 N same h k = same k ∙ h k
+
+pub on-ok : {A B : Type 0} {P Q : Type 0} (r : Result A B) → (P → Q) → OnOk r P → OnOk r Q
+on-ok (Ok x) f h = f h
+on-ok (Err e) f h = tt

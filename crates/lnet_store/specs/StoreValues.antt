@@ -1,5 +1,5 @@
 -- What a store, a reader of it and a counter of reads hold, as contracts see them.
-use Rattle.std.specs.Prelude.{ℕ, zero, suc, ◌⊎◌, drop, ◌+◌, ◌-◌, ◌^◌, List, [], ◌∷◌, ◌++◌, length, min, refl, slice_set, slice_index_or, map, Bool, false, ◌≡◌, ◌≤◌}
+use Rattle.std.specs.Prelude.{ℕ, zero, suc, ◌⊎◌, drop, ◌+◌, ◌-◌, ◌^◌, List, [], ◌∷◌, ◌++◌, length, min, refl, slice_set, slice_index, slice_index_or, count_by, eqb, map, Bool, false, ◌≡◌, ◌≤◌}
 use Rattle.std.specs.Coded.{Coded, code_by, coded×, coded_ℕ}
 use Rattle.std.specs.Ordering.{nat_cmp}
 use Rattle.std.specs.FinMap.{FinMap, empty, insert}
@@ -9,7 +9,7 @@ use Rattle.lnet_gates.specs.declared.signal.Signal.{Signal}
 use Rattle.lnet_model.specs.Networks.{NetworkValue, Lookup, Entry, Constant, Input, entry_at, fanins_of}
 use Rattle.lnet_model.specs.Along.{at_entry}
 use Rattle.lnet_model.specs.Dags.{numbers_of, NUMBERS}
-use Rattle.lnet_model.specs.Fanouts.{slots_naming}
+use Rattle.lnet_model.specs.Fanouts.{references, slots_naming}
 use Rattle.lnet_model.specs.Code.{network_code}
 
 -- the network, for how many new nodes there is memory, and the stamp. A store isn't tied to a kind: its network is seen as
@@ -26,10 +26,19 @@ store_code = code_by (NetworkValue × (ℕ × ℕ)) (coded× network_code (coded
 unfoldable pub network_of : FinMap nat_cmp Entry → List Node → List Signal → NetworkValue
 network_of nodes inputs outputs = record { kind = Klut; nodes = nodes; inputs = map (λ (n : Node). n.0) inputs; outputs = outputs }
 
--- memory for each number below the room: places for inputs, an unset mark and a place of the queue
-pub record HasRoom (room places : ℕ) (inputs : List Node) (marks : List Bool) (queue : List ℕ) : Type 0 where
+-- how many of the signals name n
+abbrev pub naming : ℕ → List Signal → ℕ
+naming n ss = count_by (λ (s : Signal). eqb s.node.0 n) ss
+
+-- the counts are the references
+unfoldable pub AreReferences : List ℕ → NetworkValue → Type 0
+AreReferences counts N = (n : ℕ) → slice_index counts n ≡ references N n
+
+-- memory for each number below the room: places for inputs, a count, an unset mark and a place of the queue
+pub record HasRoom (room places : ℕ) (inputs : List Node) (counts : List ℕ) (marks : List Bool) (queue : List ℕ) : Type 0 where
   pub inputs_fit : room ≤ places
   pub few_inputs : length inputs ≤ NUMBERS
+  pub counts_fit : room ≤ length counts
   pub marks_fit : room ≤ length marks
   pub unmarked : (n : ℕ) → slice_index_or marks n false ≡ false
   pub queue_fits : room ≤ length queue

@@ -1,6 +1,8 @@
 //! The store of a network's nodes, readers of it that count, and the trait of the views that are told its changes.
 #![tactic(auto)]
 
+mod adding;
+mod counting;
 mod look;
 mod slots;
 mod store;

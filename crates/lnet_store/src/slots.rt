@@ -1,6 +1,6 @@
 //! What stands at each number.
 
-ghost use Rattle.std.specs.Prelude.{◌≡◌, ◌≤◌, ◌<◌, ◌+◌, ◌↔◌, ℕ, IsTrue, IsSome, None, Some, IfOk, OnOk, OnErr, option_map, slice_index_or};
+ghost use Rattle.std.specs.Prelude.{◌≡◌, ◌≤◌, ◌<◌, ◌+◌, ◌↔◌, ℕ, IsTrue, IsSome, None, Some, IfOk, OnOk, OnErr, option_map, slice_index_or, ◌++◌, ◌-◌, length, replicate};
 ghost use Rattle.std.specs.FinMap.{get, len, insert, remove, empty};
 ghost use Rattle.lnet_model.specs.Networks.{Constant, Input, IsGate, gate_in};
 ghost use Rattle.lnet_model.specs.Dags.{NUMBERS};
@@ -53,6 +53,23 @@ impl Model for NodeSlots {
     ghost view = { λ s. record { nodes = held s.slots.items; room = length s.slots.items } };
 
     ghost invariant = { λ s. IsCounted s.slots.items s.live s.numbers s.floor };
+}
+
+/// How many numbers a network can have.
+pub(crate) const LIMIT: u32 = 1_048_576;
+
+/// So many empty slots more.
+fn extend(slots: &mut Vec<Option<Slot>>, more: u32) -> Result<(), AllocError>
+    ensures items { slots.new.items ≡ slots.old.items ++ replicate (length slots.new.items - length slots.old.items) None }
+    ensures ok { OnOk result (length slots.new.items ≡ length slots.old.items + more) }
+    ensures err { OnErr result (length slots.new.items ≡ length slots.old.items) }
+    ensures most { length slots.new.items ≤ length slots.old.items + more }
+{
+    slots.reserve(more as usize)?;
+    'slots: for _ in 0..more {
+        slots.push_reserved(None);
+    }
+    Ok(())
 }
 
 impl NodeSlots {
@@ -128,5 +145,47 @@ impl NodeSlots {
             Some(Slot::Gate(gate)) => Some(gate),
             _ => None,
         }
+    }
+
+    /// Gets memory for so many numbers. Linear in them.
+    pub(crate) fn grow(&mut self, room: u32) -> Result<(), AllocError>
+        requires within { room ≤ NUMBERS }
+        requires more { self.old.room ≤ room }
+        ensures nodes { self.new.nodes ≡ self.old.nodes }
+        ensures ok { OnOk result (self.new.room ≡ room) }
+        ensures err { OnErr result (self.new.room ≡ self.old.room) }
+        ensures grows { self.old.room ≤ self.new.room }
+        ensures most { self.new.room ≤ room }
+    {
+        let more = room - self.slots.len() as u32;
+        extend(&mut self.slots, more)
+    }
+
+    /// The least number that isn't live. Linear in the numbers from the one below which none is free.
+    pub(crate) fn next_free(&self) -> Node
+        requires { len self.now.nodes < self.now.room }
+        ensures free { get self.now.nodes result.0 ≡ None }
+        ensures least { (m : ℕ) → m < result.0 → IsSome (get self.now.nodes m) }
+        ensures within { result.0 < self.now.room }
+    {
+        let mut n = self.floor;
+        'search: while self.is_live(Node(n)) {
+            n += 1;
+        }
+        Node(n)
+    }
+
+    /// Fills the slot of the least number that isn't live. Constant time.
+    pub(crate) fn fill(&mut self, n: Node, slot: Slot)
+        requires space { len self.old.nodes < self.old.room }
+        requires free { get self.old.nodes n.0 ≡ None }
+        requires least { (m : ℕ) → m < n.0 → IsSome (get self.old.nodes m) }
+        ensures nodes { self.new.nodes ≡ insert self.old.nodes n.0 (entry_of slot) }
+        ensures room { self.new.room ≡ self.old.room }
+    {
+        self.slots[n.0 as usize] = Some(slot);
+        self.live += 1;
+        self.numbers = self.numbers.max(n.0 + 1);
+        self.floor = n.0 + 1;
     }
 }

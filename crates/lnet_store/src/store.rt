@@ -6,6 +6,7 @@ ghost use Rattle.lnet_model.specs.Fanouts.{references};
 ghost use Rattle.lnet_model.specs.Dags.{IsStored, AreBelow, numbers_of, NUMBERS};
 ghost use Rattle.lnet_store.specs.StoreValues.{first_network};
 
+use crate::counting::count_of;
 use crate::look::{Look, Visits};
 use crate::slots::NodeSlots;
 use lnet_gates::{Gate, Node, Signal};
@@ -32,6 +33,7 @@ pub struct Store {
     pub(crate) inputs: Vec<Node>,
     pub(crate) outputs: Vec<Signal>,
     pub(crate) stamp: u64,
+    pub(crate) counts: Vec<u32>,
     pub(crate) marks: Vec<bool>,
     pub(crate) queue: Vec<u32>,
 }
@@ -41,7 +43,7 @@ impl Model for Store {
     ghost use Rattle.std.specs.FinMap.{len};
     ghost use Rattle.std.specs.Vec.{vec_capacity};
     ghost use Rattle.lnet_model.specs.Dags.{IsStored};
-    ghost use Rattle.lnet_store.specs.StoreValues.{StoreValue, store_code, network_of, HasRoom};
+    ghost use Rattle.lnet_store.specs.StoreValues.{StoreValue, store_code, network_of, HasRoom, AreReferences};
 
     ghost Value = { StoreValue };
 
@@ -49,7 +51,7 @@ impl Model for Store {
 
     ghost view = { λ s. record { network = network_of s.nodes.nodes s.inputs.items s.outputs.items; spare = s.nodes.room - len s.nodes.nodes; stamp = s.stamp } };
 
-    ghost invariant = { λ s. IsStored (network_of s.nodes.nodes s.inputs.items s.outputs.items) × HasRoom s.nodes.room (vec_capacity s.inputs) s.inputs.items s.marks.items s.queue.items };
+    ghost invariant = { λ s. IsStored (network_of s.nodes.nodes s.inputs.items s.outputs.items) × HasRoom s.nodes.room (vec_capacity s.inputs) s.inputs.items s.counts.items s.marks.items s.queue.items × AreReferences s.counts.items (network_of s.nodes.nodes s.inputs.items s.outputs.items) };
 }
 
 impl Store {
@@ -60,6 +62,8 @@ impl Store {
     {
         let nodes = NodeSlots::new(alloc)?;
         let inputs = Vec::with_capacity(alloc, 1)?;
+        let mut counts = Vec::new(alloc);
+        counts.push(0)?;
         let mut marks = Vec::new(alloc);
         marks.push(false)?;
         let mut queue = Vec::new(alloc);
@@ -69,6 +73,7 @@ impl Store {
             inputs,
             outputs: Vec::new(alloc),
             stamp: 0,
+            counts,
             marks,
             queue,
         })
@@ -86,6 +91,13 @@ impl Store {
         ensures { option_map (λ g. g.now) result ≡ gate_at self.now.network n.0 }
     {
         self.nodes.gate_of(n)
+    }
+
+    /// How many fanin slots and outputs name the node: its references, 0 where it isn't live. Constant time.
+    pub fn refs(&self, n: Node) -> u32
+        ensures { result ≡ references self.now.network n.0 }
+    {
+        count_of(&self.counts, n)
     }
 
     /// Whether the number is live. Constant time.

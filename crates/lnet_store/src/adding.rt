@@ -1,0 +1,129 @@
+//! Adding inputs, gates and outputs to a store, and getting memory for them.
+
+ghost use Rattle.std.specs.Prelude.{◌≡◌, ◌≤◌, ◌<◌, ◌+◌, ◌-◌, ◌↔◌, ℕ, IfOk, OnOk, OnErr, length, min, slice_index, slice_index_or, false};
+ghost use Rattle.std.specs.Vec.{vec_capacity};
+ghost use Rattle.lnet_model.specs.Networks.{IsLive, IsGate, live_count};
+ghost use Rattle.lnet_model.specs.Along.{nodes_read};
+ghost use Rattle.lnet_model.specs.Changes.{with_entry, without, AreLive, IsLeastFree};
+ghost use Rattle.lnet_model.specs.Dags.{NUMBERS, OUTPUTS};
+ghost use Rattle.lnet_gates.specs.Plans.{Takes};
+ghost use Rattle.lnet_store.specs.StoreValues.{raised, with_input, with_new_output};
+
+use crate::counting::count_all;
+use crate::slots::{LIMIT, Slot};
+use crate::store::{AddError, Store};
+use lnet_gates::{Gate, Node, Signal};
+use std::alloc::AllocError;
+
+/// At least so many elements: where there are fewer, the value after them.
+fn lengthen<T: Copy>(items: &mut Vec<T>, len: usize, value: T) -> Result<(), AllocError>
+    ensures same { (k : ℕ) → slice_index_or items.new.items k value ≡ slice_index_or items.old.items k value }
+    ensures grows { length items.old.items ≤ length items.new.items }
+    ensures ok { OnOk result (len ≤ length items.new.items) }
+{
+    if items.len() < len {
+        items.resize(len, value)?;
+    }
+    Ok(())
+}
+
+/// Places for so many inputs, counts and marks, and of the queue. What they hold stays, whatever it answers.
+fn get_places(inputs: &mut Vec<Node>, counts: &mut Vec<u32>, marks: &mut Vec<bool>, queue: &mut Vec<u32>, room: usize) -> Result<(), AllocError>
+    ensures inputs { inputs.new.items ≡ inputs.old.items }
+    ensures capacity { vec_capacity inputs.old ≤ vec_capacity inputs.new }
+    ensures counts { (k : ℕ) → slice_index counts.new.items k ≡ slice_index counts.old.items k }
+    ensures counts_grow { length counts.old.items ≤ length counts.new.items }
+    ensures marks { (k : ℕ) → slice_index_or marks.new.items k false ≡ slice_index_or marks.old.items k false }
+    ensures marks_grow { length marks.old.items ≤ length marks.new.items }
+    ensures queue_grows { length queue.old.items ≤ length queue.new.items }
+    ensures ok { OnOk result ((room ≤ vec_capacity inputs.new) × (room ≤ length counts.new.items) × (room ≤ length marks.new.items) × (room ≤ length queue.new.items)) }
+{
+    inputs.reserve(room)?;
+    lengthen(counts, room, 0)?;
+    lengthen(marks, room, false)?;
+    lengthen(queue, room, 0)?;
+    Ok(())
+}
+
+impl Store {
+    /// Gets memory for so many numbers. Linear in them.
+    fn grow(&mut self, room: u32) -> Result<(), AllocError>
+        requires within { room ≤ NUMBERS }
+        requires more { live_count self.old.network + self.old.spare ≤ room }
+        ensures network { self.new.network ≡ self.old.network }
+        ensures stamp { self.new.stamp ≡ self.old.stamp }
+        ensures grows { self.old.spare ≤ self.new.spare }
+        ensures spare { OnOk result (live_count self.old.network + self.new.spare ≡ room) }
+    {
+        match get_places(
+            &mut self.inputs,
+            &mut self.counts,
+            &mut self.marks,
+            &mut self.queue,
+            room as usize,
+        ) {
+            Ok(()) => self.nodes.grow(room),
+            Err(error) => Err(error),
+        }
+    }
+
+    /// Gets memory for so many new nodes, or for as many as there are free numbers. Where it needs more than it has, it
+    /// doubles it at least, so that a network is built in linear time. Whatever it answers, it loses no memory.
+    pub fn reserve(&mut self, numbers: u32) -> Result<(), AllocError>
+        ensures network { self.new.network ≡ self.old.network }
+        ensures stamp { self.new.stamp ≡ self.old.stamp }
+        ensures grows { self.old.spare ≤ self.new.spare }
+        ensures spare { OnOk result (min numbers (NUMBERS - live_count self.old.network) ≤ self.new.spare) }
+    {
+        let live = self.nodes.live();
+        let room = self.nodes.room();
+        let wanted = numbers.min(LIMIT - live);
+        if wanted <= room - live {
+            return Ok(());
+        }
+        self.grow((live + wanted).max(2 * room).min(LIMIT))
+    }
+
+    /// Memory for one new node at least. Refused for want of it, there is memory for none.
+    fn make_space(&mut self) -> Result<(), AllocError>
+        requires { live_count self.old.network < NUMBERS }
+        ensures network { self.new.network ≡ self.old.network }
+        ensures stamp { self.new.stamp ≡ self.old.stamp }
+        ensures grows { self.old.spare ≤ self.new.spare }
+        ensures spare { OnOk result (0 < self.new.spare) }
+        ensures refused { OnErr result (self.old.spare ≡ 0) }
+    {
+        if self.spare() > 0 {
+            return Ok(());
+        }
+        self.reserve(1)
+    }
+
+    /// The least number that isn't live, where there is memory for a node. Linear in the numbers from the one below which
+    /// none is free.
+    fn least_free(&self) -> Node
+        requires { 0 < self.now.spare }
+        ensures { IsLeastFree self.now.network result.0 }
+    {
+        self.nodes.next_free()
+    }
+
+    /// The least number that isn't live, and memory for a node there.
+    fn free_number(&mut self) -> Result<Node, AddError>
+        ensures network { self.new.network ≡ self.old.network }
+        ensures stamp { self.new.stamp ≡ self.old.stamp }
+        ensures grows { self.old.spare ≤ self.new.spare }
+        ensures number { IfOk result (λ n. IsLeastFree self.old.network n.0) }
+        ensures spare { OnOk result (0 < self.new.spare) }
+        ensures full { (result ≡ Err AddError.Full) ↔ (live_count self.old.network ≡ NUMBERS) }
+        ensures memory { result ≡ Err AddError.NoMemory → self.old.spare ≡ 0 }
+    {
+        if self.nodes.live() == LIMIT {
+            return Err(AddError::Full);
+        }
+        match self.make_space() {
+            Ok(()) => Ok(self.least_free()),
+            Err(_) => Err(AddError::NoMemory),
+        }
+    }
+}

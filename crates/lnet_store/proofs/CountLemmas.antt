@@ -5,7 +5,7 @@ use Rattle.std.proofs.lemmas.Bool.Decides.{eqb_tells}
 use Rattle.std.proofs.lemmas.List.Sums.{sum_by_more, sum_by-take-le}
 use Rattle.lnet_gates.specs.declared.signal.Signal.{Signal}
 use Rattle.lnet_model.specs.Along.{In, nodes_read}
-use Rattle.lnet_store.specs.StoreValues.{naming}
+use Rattle.lnet_store.specs.Fields.{naming}
 
 pub read-In : (ss : List Signal) (i : ℕ) (d : Signal) → i < length ss → In (get_or ss i d).node.0 (nodes_read ss)
 read-In [] i d lt = absurd (omega arith)

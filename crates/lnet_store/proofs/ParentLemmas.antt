@@ -9,7 +9,7 @@ use Rattle.lnet_model.specs.Fanouts.{fan, slots_naming}
 use Rattle.lnet_model.specs.Dags.{numbers_of}
 use Rattle.lnet_model.proofs.Numbers.{live-below-numbers}
 use Rattle.lnet_model.proofs.Rising.{by_number, entries-by_number}
-use Rattle.lnet_store.specs.StoreValues.{named_from, named_after, named_still}
+use Rattle.lnet_store.specs.Remaining.{named_from, named_after, named_still}
 
 named-by_number : (g : Lookup) (n a k : ℕ) → by_number g (λ m e. slots_naming n m 0 (fanins_of e)) a k ≡ named_after g n a k
 named-by_number g n a zero = refl

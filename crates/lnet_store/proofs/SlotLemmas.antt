@@ -12,7 +12,7 @@ use Rattle.lnet_model.proofs.Map.{Apart, count_apart, insert_here, insert_apart,
 use Rattle.lnet_model.specs.Networks.{Entry, Constant}
 use Rattle.lnet_model.specs.Slots.{nodes_of}
 use Rattle.lnet_model.proofs.Slots.{get-nodes_of, set-insert, set-remove}
-use Rattle.lnet_store.specs.Held.{entry_of, entry_in, held, IsCounted}
+use Rattle.lnet_store.specs.Held.{entry_of, entry_in, held, IsCounted, IsFitting}
 use Rattle.lnet_store.specs.declared.slots.Slot.{Slot}
 use Rattle.lnet_store.specs.declared.slots.Slot.TheVariants as slot
 
@@ -186,3 +186,10 @@ counted-grown slots live numbers floor k c le =
       fits = omega arith;
       within = omega arith;
     }
+
+pub fitting : (slots : List (Option Slot)) (live numbers floor : ℕ) → IsCounted slots live numbers floor → IsFitting (record { nodes = held slots; room = length slots })
+fitting slots live numbers floor c = record {
+  within = held-inside slots;
+  few = (let e = c.counted in let f = c.fits in omega arith);
+  limit = c.within;
+}

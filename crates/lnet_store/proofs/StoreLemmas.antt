@@ -13,7 +13,9 @@ use Rattle.lnet_gates.specs.declared.signal.Signal.{Signal}
 use Rattle.lnet_model.specs.Networks.{fanins_of, Entry, Constant, Input, IsGate, NetworkValue, entry_at, live_count, IsLive}
 use Rattle.lnet_model.specs.Along.{at_entry, In, nodes_read, fanin_nodes}
 use Rattle.lnet_model.specs.Dags.{IsStored, AreBelow, NUMBERS}
-use Rattle.lnet_store.specs.StoreValues.{network_of, first_network, AreReferences, HasRoom}
+use Rattle.lnet_store.specs.StoreValues.{first_network}
+use Rattle.lnet_store.specs.Held.{Numbered, IsFitting}
+use Rattle.lnet_store.specs.Fields.{network_of, AreReferences, HasRoom}
 
 module _ (nodes : FinMap nat_cmp Entry) (inputs : List Node) (outputs : List Signal) (N : NetworkValue) (is : network_of nodes inputs outputs ≡ N) where
   pub entry-of : (n : ℕ) → get nodes n ≡ entry_at N n
@@ -122,8 +124,9 @@ first-references n = zeros n ∙ sym (first-named n)
 
 -- ---- more memory
 
-pub room-more : (room room2 places places2 : ℕ) (inputs inputs2 : List Node) (counts counts2 : List ℕ) (marks marks2 : List Bool) (queue queue2 : List ℕ) → HasRoom room places inputs counts marks queue → room2 ≤ places2 → inputs2 ≡ inputs → room2 ≤ length counts2 → room2 ≤ length marks2 → ((k : ℕ) → get_or marks2 k false ≡ get_or marks k false) → room2 ≤ length queue2 → HasRoom room2 places2 inputs2 counts2 marks2 queue2
-room-more room room2 places places2 inputs inputs2 counts counts2 marks marks2 queue queue2 h p i c m same q = record {
+pub room-more : (nodes nodes2 : Numbered) (places places2 : ℕ) (inputs inputs2 : List Node) (counts counts2 : List ℕ) (marks marks2 : List Bool) (queue queue2 : List ℕ) → HasRoom nodes places inputs counts marks queue → IsFitting nodes2 → nodes2.room ≤ places2 → inputs2 ≡ inputs → nodes2.room ≤ length counts2 → nodes2.room ≤ length marks2 → ((k : ℕ) → get_or marks2 k false ≡ get_or marks k false) → nodes2.room ≤ length queue2 → HasRoom nodes2 places2 inputs2 counts2 marks2 queue2
+room-more nodes nodes2 places places2 inputs inputs2 counts counts2 marks marks2 queue queue2 h f p i c m same q = record {
+  fitting = f;
   inputs_fit = p;
   few_inputs = subst (λ (xs : List Node). length xs ≤ NUMBERS) (sym i) h.few_inputs;
   counts_fit = c;

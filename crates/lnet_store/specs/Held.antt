@@ -41,3 +41,9 @@ pub record IsCounted (slots : List (Option Slot)) (live numbers floor : ℕ) : T
   pub none_free : (n : ℕ) → n < floor → IsSome (get (held slots) n)
   pub fits : live ≤ length slots
   pub within : length slots ≤ NUMBERS
+
+-- each live number has a slot, and there are no more slots than a network can have numbers
+pub record IsFitting (s : Numbered) : Type 0 where
+  pub within : (n : ℕ) → IsSome (get s.nodes n) → n < s.room
+  pub few : len s.nodes ≤ s.room
+  pub limit : s.room ≤ NUMBERS

@@ -1,2 +1,4 @@
 pub mod StoreValues
 pub mod Held
+pub mod Fields
+pub mod Remaining

@@ -2,7 +2,7 @@
 
 ghost use Rattle.std.specs.Prelude.{◌≡◌, ◌≤◌, ◌<◌, ◌+◌, ◌^◌, ℕ, length, slice_index};
 ghost use Rattle.lnet_model.specs.Along.{In, nodes_read};
-ghost use Rattle.lnet_store.specs.StoreValues.{naming};
+ghost use Rattle.lnet_store.specs.Fields.{naming};
 
 use lnet_gates::{Node, Signal};
 

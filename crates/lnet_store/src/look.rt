@@ -5,7 +5,8 @@ ghost use Rattle.lnet_model.specs.Networks.{IsLive, entry_at, fanins_of, gate_at
 ghost use Rattle.lnet_model.specs.Along.{at_entry};
 ghost use Rattle.lnet_model.specs.Fanouts.{fan};
 ghost use Rattle.lnet_model.specs.Dags.{IsStored, NUMBERS};
-ghost use Rattle.lnet_store.specs.StoreValues.{raised, named_still, IsOneOf};
+ghost use Rattle.lnet_store.specs.StoreValues.{raised, IsOneOf};
+ghost use Rattle.lnet_store.specs.Remaining.{named_still};
 
 use crate::store::Store;
 use lnet_gates::{Gate, Node, Signal};
@@ -135,7 +136,8 @@ pub struct Parents<'a> {
 
 impl<'a> Model for Parents<'a> {
     ghost use Rattle.std.specs.Prelude.{◌≤◌};
-    ghost use Rattle.lnet_store.specs.StoreValues.{ParentsLeft, named_still};
+    ghost use Rattle.lnet_store.specs.StoreValues.{ParentsLeft};
+    ghost use Rattle.lnet_store.specs.Remaining.{named_still};
 
     ghost Value = { ParentsLeft };
 

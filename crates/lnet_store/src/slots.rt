@@ -4,7 +4,7 @@ ghost use Rattle.std.specs.Prelude.{◌≡◌, ◌≤◌, ◌<◌, ◌+◌, ◌�
 ghost use Rattle.std.specs.FinMap.{get, len, insert, remove, empty};
 ghost use Rattle.lnet_model.specs.Networks.{Constant, Input, IsGate, gate_in};
 ghost use Rattle.lnet_model.specs.Dags.{NUMBERS};
-ghost use Rattle.lnet_store.specs.Held.{entry_of};
+ghost use Rattle.lnet_store.specs.Held.{entry_of, IsFitting};
 
 use lnet_gates::{Gate, Node};
 use std::alloc::{AllocError, Global};
@@ -77,6 +77,7 @@ impl NodeSlots {
     pub(crate) fn new(alloc: Global) -> Result<NodeSlots, AllocError>
         ensures nodes { IfOk result (λ s. s.nodes ≡ insert empty 0 Constant) }
         ensures room { IfOk result (λ s. s.room ≡ 1) }
+        ensures fitting { IfOk result (λ s. IsFitting s) }
     {
         let mut slots = Vec::new(alloc);
         slots.push(Some(Slot::Constant))?;
@@ -156,6 +157,7 @@ impl NodeSlots {
         ensures err { OnErr result (self.new.room ≡ self.old.room) }
         ensures grows { self.old.room ≤ self.new.room }
         ensures most { self.new.room ≤ room }
+        ensures fitting { IsFitting self.new }
     {
         let more = room - self.slots.len() as u32;
         extend(&mut self.slots, more)
@@ -182,6 +184,8 @@ impl NodeSlots {
         requires least { (m : ℕ) → m < n.0 → IsSome (get self.old.nodes m) }
         ensures nodes { self.new.nodes ≡ insert self.old.nodes n.0 (entry_of slot) }
         ensures room { self.new.room ≡ self.old.room }
+        ensures fitting { IsFitting self.new }
+        ensures within { n.0 < NUMBERS }
     {
         self.slots[n.0 as usize] = Some(slot);
         self.live += 1;

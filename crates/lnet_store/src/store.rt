@@ -43,7 +43,8 @@ impl Model for Store {
     ghost use Rattle.std.specs.FinMap.{len};
     ghost use Rattle.std.specs.Vec.{vec_capacity};
     ghost use Rattle.lnet_model.specs.Dags.{IsStored};
-    ghost use Rattle.lnet_store.specs.StoreValues.{StoreValue, store_code, network_of, HasRoom, AreReferences};
+    ghost use Rattle.lnet_store.specs.StoreValues.{StoreValue, store_code};
+    ghost use Rattle.lnet_store.specs.Fields.{network_of, HasRoom, AreReferences};
 
     ghost Value = { StoreValue };
 
@@ -51,7 +52,7 @@ impl Model for Store {
 
     ghost view = { λ s. record { network = network_of s.nodes.nodes s.inputs.items s.outputs.items; spare = s.nodes.room - len s.nodes.nodes; stamp = s.stamp } };
 
-    ghost invariant = { λ s. IsStored (network_of s.nodes.nodes s.inputs.items s.outputs.items) × HasRoom s.nodes.room (vec_capacity s.inputs) s.inputs.items s.counts.items s.marks.items s.queue.items × AreReferences s.counts.items (network_of s.nodes.nodes s.inputs.items s.outputs.items) };
+    ghost invariant = { λ s. IsStored (network_of s.nodes.nodes s.inputs.items s.outputs.items) × HasRoom s.nodes (vec_capacity s.inputs) s.inputs.items s.counts.items s.marks.items s.queue.items × AreReferences s.counts.items (network_of s.nodes.nodes s.inputs.items s.outputs.items) };
 }
 
 impl Store {

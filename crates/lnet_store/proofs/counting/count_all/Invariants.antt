@@ -1,5 +1,5 @@
 use Rattle.std.proofs.Common.{◌≡◌, ℕ, ◌+◌, length, take, get_or}
-use Rattle.lnet_store.specs.StoreValues.{naming}
+use Rattle.lnet_store.specs.Fields.{naming}
 use Rattle.lnet_store.proofs.counting.count_all.Given as goal
 
 abbrev pub invariant-signals : goal.invariant-signals

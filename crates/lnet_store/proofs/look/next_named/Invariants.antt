@@ -1,6 +1,6 @@
 use Rattle.std.proofs.Common.{◌≡◌, ◌≤◌, ◌+◌, ◌-◌, ◌*◌}
 use Rattle.lnet_model.specs.Dags.{numbers_of}
-use Rattle.lnet_store.specs.StoreValues.{named_still}
+use Rattle.lnet_store.specs.Remaining.{named_still}
 use Rattle.lnet_store.proofs.look.next_named.Given as goal
 
 abbrev pub invariant-slots : goal.invariant-slots

@@ -10,7 +10,8 @@ use Rattle.lnet_model.specs.Along.{In, nodes_read}
 use Rattle.lnet_model.specs.Fanouts.{references}
 use Rattle.lnet_model.specs.Changes.{with_entry, without, IsLeastFree}
 use Rattle.lnet_model.specs.Dags.{IsStored, numbers_of, NUMBERS, OUTPUTS}
-use Rattle.lnet_store.specs.StoreValues.{StoreValue, network_of, HasRoom, AreReferences, naming}
+use Rattle.lnet_store.specs.StoreValues.{StoreValue}
+use Rattle.lnet_store.specs.Fields.{network_of, HasRoom, AreReferences, naming}
 use Rattle.lnet_store.proofs.StoreLemmas.{entry-of, live-of, inputs-of, outputs-of, room-more, network-same, counts-same, on-ok}
 use Rattle.lnet_store.proofs.store.Store.free_number.Goals as goal
 
@@ -25,3 +26,13 @@ returns-then-live-eq-LIMIT-clause-full c =
     let e = live-of c.self.inside.nodes.nodes c.self.inside.inputs.items c.self.inside.outputs.items c.args.self.now.network (ap (λ (h : StoreValue). h.network) c.self.view_is) in
     let s = ap (λ (h : StoreValue). h.spare) c.self.view_is in
     (λ q. omega arith, λ q. refl)
+
+pub returns-in-Ok-clause-full : goal.returns-in-Ok-clause-full
+returns-in-Ok-clause-full c =
+    let e = live-of c.self.inside.nodes.nodes c.self.inside.inputs.items c.self.inside.outputs.items c.args.self.now.network (ap (λ (h : StoreValue). h.network) c.self.view_is) in
+    (λ q. cc, λ q. absurd (c.if-live-eq-LIMIT.false (omega arith)))
+
+pub returns-in-Err-clause-full : goal.returns-in-Err-clause-full
+returns-in-Err-clause-full c =
+    let e = live-of c.self.inside.nodes.nodes c.self.inside.inputs.items c.self.inside.outputs.items c.args.self.now.network (ap (λ (h : StoreValue). h.network) c.self.view_is) in
+    (λ q. cc, λ q. absurd (c.if-live-eq-LIMIT.false (omega arith)))

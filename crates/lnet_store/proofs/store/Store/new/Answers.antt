@@ -1,6 +1,6 @@
 use Rattle.std.proofs.Common.{◌≡◌, ℕ, zero, suc, [], ◌∷◌, ◌++◌, length, false, get_or, refl, ap, subst, sym, ◌∙◌, arith}
 use Rattle.lnet_model.specs.Dags.{IsStored}
-use Rattle.lnet_store.specs.StoreValues.{AreReferences, network_of}
+use Rattle.lnet_store.specs.Fields.{AreReferences, network_of}
 use Rattle.lnet_store.proofs.StoreLemmas.{network-first, first-stored, first-references}
 use Rattle.lnet_store.proofs.store.Store.new.Goals as goal
 
@@ -20,6 +20,7 @@ invariant_of-result c =
     let queue : c.push-3.new.self.items ≡ 0 ∷ [] = c.in_ok-push-3.ensures.items ∙ ap (λ xs. xs ++ 0 ∷ []) c.new-queue.ensures.items in (
       subst IsStored (sym first) first-stored,
       record {
+        fitting = c.in_ok-nodes.ensures.fitting;
         inputs_fit = omega (arith, c.in_ok-inputs.ensures.capacity, c.in_ok-nodes.ensures.room);
         few_inputs = omega (arith, ap length c.in_ok-inputs.ensures.items);
         counts_fit = omega (arith, ap length counts, c.in_ok-nodes.ensures.room);

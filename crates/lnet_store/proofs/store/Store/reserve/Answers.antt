@@ -10,7 +10,8 @@ use Rattle.lnet_model.specs.Along.{In, nodes_read}
 use Rattle.lnet_model.specs.Fanouts.{references}
 use Rattle.lnet_model.specs.Changes.{with_entry, without, IsLeastFree}
 use Rattle.lnet_model.specs.Dags.{IsStored, numbers_of, NUMBERS, OUTPUTS}
-use Rattle.lnet_store.specs.StoreValues.{StoreValue, network_of, HasRoom, AreReferences, naming}
+use Rattle.lnet_store.specs.StoreValues.{StoreValue}
+use Rattle.lnet_store.specs.Fields.{network_of, HasRoom, AreReferences, naming}
 use Rattle.lnet_store.proofs.StoreLemmas.{entry-of, live-of, inputs-of, outputs-of, room-more, network-same, counts-same, on-ok}
 use Rattle.lnet_store.proofs.store.Store.reserve.Goals as goal
 

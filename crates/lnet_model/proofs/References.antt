@@ -95,7 +95,7 @@ references-outputs M N same n =
 
 -- ---- how many there are
 
-takes-six : (op : Op) (n : ℕ) → Takes op n → n ≤ 6
+pub takes-six : (op : Op) (n : ℕ) → Takes op n → n ≤ 6
 takes-six And n h = omega arith
 takes-six Xor n h = omega arith
 takes-six Maj n h = omega arith

@@ -2,3 +2,4 @@ pub mod SlotLemmas
 pub mod ParentLemmas
 pub mod StoreLemmas
 pub mod CountLemmas
+pub mod ChangeLemmas

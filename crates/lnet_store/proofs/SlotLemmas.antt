@@ -1,15 +1,16 @@
 -- Slots as a map, read and written.
-use Rattle.std.proofs.Common.{◌≢◌, max, inl, inr, length-set, length-append, ◌≡◌, ℕ, zero, suc, ◌+◌, ◌<◌, ◌≤◌, cond, is_some, lit≤, true, false, List, [], ◌∷◌, ◌++◌, map, length, replicate, IsSome, Option, None, Some, get_or, refl, sym, ap, subst, ◌∙◌, arith}
+use Rattle.std.proofs.Common.{◌≢◌, ◌-◌, min, max, inl, inr, length-set, length-append, ◌≡◌, ℕ, zero, suc, ◌+◌, ◌<◌, ◌≤◌, cond, is_some, lit≤, true, false, List, [], ◌∷◌, ◌++◌, map, length, replicate, IsSome, Option, None, Some, get_or, refl, sym, ap, subst, ◌∙◌, arith}
 use Rattle.std.proofs.Math.ListN.{set}
 use Rattle.std.proofs.lemmas.List.{length-replicate}
 use Rattle.std.proofs.lemmas.Cmp.{nat_cmp_total}
 use Rattle.std.specs.Ordering.{nat_cmp}
-use Rattle.std.specs.FinMap.{FinMap, get, len, len-insert, len-empty, get-empty, empty, insert, remove, same_map, nat_cmp-IsAntisymmetric}
+use Rattle.std.specs.FinMap.{FinMap, get, len, len-insert, len-remove, len-empty, get-empty, empty, insert, remove, same_map, nat_cmp-IsAntisymmetric}
+use Rattle.std.proofs.lemmas.Bool.{cases_lt}
 use Rattle.std.proofs.lemmas.Bool.Decides.{eqb_tells}
 use Rattle.lnet_model.specs.Along.{In}
 use Rattle.lnet_model.specs.Dags.{NUMBERS}
-use Rattle.lnet_model.proofs.Map.{Apart, count_apart, insert_here, insert_apart, remove_here, remove_apart}
-use Rattle.lnet_model.specs.Networks.{Entry, Constant}
+use Rattle.lnet_model.proofs.Map.{Apart, count_apart, len_positive, insert_here, insert_apart, remove_here, remove_apart}
+use Rattle.lnet_model.specs.Networks.{Entry, Constant, gate_in}
 use Rattle.lnet_model.specs.Slots.{nodes_of}
 use Rattle.lnet_model.proofs.Slots.{get-nodes_of, set-insert, set-remove}
 use Rattle.lnet_store.specs.Held.{entry_of, entry_in, held, IsCounted, IsFitting}
@@ -193,3 +194,76 @@ fitting slots live numbers floor c = record {
   few = (let e = c.counted in let f = c.fits in omega arith);
   limit = c.within;
 }
+
+some-in : (o : Option Slot) → IsSome o → IsSome (entry_in o)
+some-in None h = h
+some-in (Some s) h = refl
+
+-- ---- a live number's slot, filled anew or emptied
+
+module _ (slots : List (Option Slot)) (live numbers floor : ℕ) (c : IsCounted slots live numbers floor) (n : ℕ) (there : IsSome (get (held slots) n)) where
+  pub there-inside : n < length slots
+  there-inside = held-inside slots n there
+
+  set-live : (s : Slot) (m : ℕ) → IsSome (get (held slots) m) → IsSome (get (held (set slots n (Some s))) m)
+  set-live s m h = elim (eqb_tells m n) as (λ _. IsSome (get (held (set slots n (Some s))) m)) [
+    | inl p ↦ subst (λ z. IsSome (get (held (set slots n (Some s))) z)) (sym p.1) (subst IsSome (sym (ap (λ m. get m n) (held-set slots n s there-inside) ∙ insert_here (held slots) n (entry_of s))) refl)
+    | inr p ↦ subst IsSome (sym (ap (λ z. get z m) (held-set slots n s there-inside) ∙ insert_apart (held slots) n (entry_of s) m p.1)) h
+  ]
+
+  live-set : (s : Slot) (m : ℕ) → IsSome (get (held (set slots n (Some s))) m) → IsSome (get (held slots) m)
+  live-set s m h = elim (eqb_tells m n) as (λ _. IsSome (get (held slots) m)) [
+    | inl p ↦ subst (λ z. IsSome (get (held slots) z)) (sym p.1) there
+    | inr p ↦ subst IsSome (ap (λ z. get z m) (held-set slots n s there-inside) ∙ insert_apart (held slots) n (entry_of s) m p.1) h
+  ]
+
+  pub counted-set : (s : Slot) → IsCounted (set slots n (Some s)) live numbers floor
+  counted-set s =
+      let same = length-set slots n (Some s) in
+      record {
+        counted = c.counted ∙ sym (ap len (held-set slots n s there-inside) ∙ len-insert nat_cmp_total (held slots) n (entry_of s) ∙ ap (λ b. cond b (len (held slots)) (len (held slots) + 1)) there);
+        below = λ m h. c.below m (live-set s m h);
+        top = λ m e. set-live s m (c.top m e);
+        none_free = λ m h. set-live s m (c.none_free m h);
+        fits = subst (λ z. live ≤ z) (sym same) c.fits;
+        within = subst (λ z. z ≤ NUMBERS) (sym same) c.within;
+      }
+
+  pub some-live : 1 ≤ live
+  some-live = let h = len_positive (held slots) n there in let e = c.counted in omega arith
+
+  clear-apart : (m : ℕ) → m ≢ n → get (held (set slots n None)) m ≡ get (held slots) m
+  clear-apart m ne = ap (λ z. get z m) (held-clear slots n there-inside) ∙ remove_apart (held slots) n m ne
+
+  clear-here : get (held (set slots n None)) n ≡ None
+  clear-here = ap (λ z. get z n) (held-clear slots n there-inside) ∙ remove_here (held slots) n
+
+  live-cleared : (m : ℕ) → IsSome (get (held (set slots n None)) m) → IsSome (get (held slots) m)
+  live-cleared m h = elim (eqb_tells m n) as (λ _. IsSome (get (held slots) m)) [
+    | inl p ↦ subst (λ z. IsSome (get (held slots) z)) (sym p.1) there
+    | inr p ↦ subst IsSome (clear-apart m p.1) h
+  ]
+
+  pub counted-cleared : (top : ℕ) → ((m : ℕ) → top ≤ m → m < numbers → get_or (set slots n None) m None ≡ None) → ((m : ℕ) → m + 1 ≡ top → IsSome (get_or (set slots n None) m None)) → IsCounted (set slots n None) (live - 1) top (min floor n)
+  counted-cleared top past here =
+      let same = length-set slots n None in
+      let old = c.counted in
+      let cap = c.fits in
+      let fewer = ap len (held-clear slots n there-inside) ∙ len-remove nat_cmp_total (held slots) n ∙ ap (λ b. cond b (len (held slots) - 1) (len (held slots))) there in
+      record {
+        counted = omega arith;
+        below = λ m h. elim (cases_lt m top) as (λ _. m < top) [
+          | inl lt ↦ lt
+          | inr ge ↦ (
+              let none = get-held (set slots n None) m ∙ ap entry_in (past m ge (c.below m (live-cleared m h))) in
+              absurd (let z : false ≡ true = subst IsSome none h in cc)
+            )
+        ];
+        top = λ m e. subst IsSome (sym (get-held (set slots n None) m)) (some-in (get_or (set slots n None) m None) (here m e));
+        none_free = λ m h. subst IsSome (sym (clear-apart m (let lt : m < n = omega arith in omega arith))) (c.none_free m (omega arith));
+        fits = omega arith;
+        within = subst (λ z. z ≤ NUMBERS) (sym same) c.within;
+      }
+
+pub gate-live : (m : FinMap nat_cmp Entry) (n : ℕ) → IsSome (gate_in (get m n)) → IsSome (get m n)
+gate-live m n h = elim (get m n) as (λ o. IsSome (gate_in o) → IsSome o) [ None ↦ λ k. k | Some e ↦ λ k. refl ] h

@@ -126,4 +126,101 @@ impl Store {
             Err(_) => Err(AddError::NoMemory),
         }
     }
+
+    /// Sets a gate at the least number that isn't live.
+    fn place(&mut self, n: Node, gate: Gate)
+        requires number { IsLeastFree self.old.network n.0 }
+        requires spare { 0 < self.old.spare }
+        requires live { AreLive self.old.network (nodes_read gate.fanins) }
+        requires arity { Takes gate.op (length gate.fanins) }
+        ensures network { self.new.network ≡ with_entry self.old.network n.0 (IsGate gate) }
+        ensures stamp { self.new.stamp ≡ raised self.old.stamp }
+        ensures spare { self.old.spare ≡ self.new.spare + 1 }
+    {
+        count_all(&mut self.counts, &gate.fanins);
+        self.nodes.fill(n, Slot::Gate(gate));
+        self.stamp = self.stamp.saturating_add(1);
+    }
+
+    /// Sets a new input at the least number that isn't live.
+    fn place_input(&mut self, n: Node)
+        requires number { IsLeastFree self.old.network n.0 }
+        requires spare { 0 < self.old.spare }
+        ensures network { self.new.network ≡ with_input self.old.network n.0 }
+        ensures stamp { self.new.stamp ≡ raised self.old.stamp }
+        ensures spare { self.old.spare ≡ self.new.spare + 1 }
+    {
+        let k = self.inputs.len() as u32;
+        self.nodes.fill(n, Slot::Input(k));
+        self.inputs.push_reserved(n);
+        self.stamp = self.stamp.saturating_add(1);
+    }
+
+    /// Adds an input, under the least number that isn't live. `Full` exactly where every number is live; else `NoMemory`
+    /// where memory ran out, and never where `spare` is above 0. Refused, it leaves the network as it was. Constant time,
+    /// amortized, while nodes are added only.
+    pub fn add_input(&mut self) -> Result<Node, AddError>
+        ensures number { IfOk result (λ n. IsLeastFree self.old.network n.0) }
+        ensures network { IfOk result (λ n. self.new.network ≡ with_input self.old.network n.0) }
+        ensures was { IfOk result (λ n. without self.new.network n.0 ≡ record self.old.network { inputs = self.new.network.inputs }) }
+        ensures stamp { OnOk result (self.new.stamp ≡ raised self.old.stamp) }
+        ensures spare { OnOk result (self.old.spare ≤ self.new.spare + 1) }
+        ensures refused { OnErr result ((self.new.network ≡ self.old.network) × (self.new.stamp ≡ self.old.stamp) × (self.old.spare ≤ self.new.spare)) }
+        ensures full { (result ≡ Err AddError.Full) ↔ (live_count self.old.network ≡ NUMBERS) }
+        ensures memory { result ≡ Err AddError.NoMemory → self.old.spare ≡ 0 }
+    {
+        match self.free_number() {
+            Ok(n) => {
+                self.place_input(n);
+                Ok(n)
+            }
+            Err(error) => Err(error),
+        }
+    }
+
+    /// Adds the gate, under the least number that isn't live. Its fanins are live, as many as its operation takes. `Full`
+    /// exactly where every number is live; else `NoMemory` where memory ran out, and never where `spare` is above 0. Refused,
+    /// it leaves the network as it was. Constant time, amortized, while nodes are added only.
+    pub fn add(&mut self, gate: Gate) -> Result<Node, AddError>
+        requires live { AreLive self.old.network (nodes_read gate.fanins) }
+        requires arity { Takes gate.op (length gate.fanins) }
+        ensures number { IfOk result (λ n. IsLeastFree self.old.network n.0) }
+        ensures network { IfOk result (λ n. self.new.network ≡ with_entry self.old.network n.0 (IsGate gate)) }
+        ensures was { IfOk result (λ n. without self.new.network n.0 ≡ self.old.network) }
+        ensures stamp { OnOk result (self.new.stamp ≡ raised self.old.stamp) }
+        ensures spare { OnOk result (self.old.spare ≤ self.new.spare + 1) }
+        ensures refused { OnErr result ((self.new.network ≡ self.old.network) × (self.new.stamp ≡ self.old.stamp) × (self.old.spare ≤ self.new.spare)) }
+        ensures full { (result ≡ Err AddError.Full) ↔ (live_count self.old.network ≡ NUMBERS) }
+        ensures memory { result ≡ Err AddError.NoMemory → self.old.spare ≡ 0 }
+    {
+        match self.free_number() {
+            Ok(n) => {
+                self.place(n, gate);
+                Ok(n)
+            }
+            Err(error) => Err(error),
+        }
+    }
+
+    /// Adds an output, and tells its place. The signal's node is live, and there are fewer outputs than the limit of
+    /// 100,000,000. Refused for want of memory, it leaves the network as it was. Constant time, amortized.
+    pub fn add_output(&mut self, s: Signal) -> Result<u32, AllocError>
+        requires live { IsLive self.old.network s.node.0 }
+        requires few { length self.old.network.outputs < OUTPUTS }
+        ensures place { IfOk result (λ k. k ≡ length self.old.network.outputs) }
+        ensures network { OnOk result (self.new.network ≡ with_new_output self.old.network s) }
+        ensures stamp { OnOk result (self.new.stamp ≡ raised self.old.stamp) }
+        ensures refused { OnErr result ((self.new.network ≡ self.old.network) × (self.new.stamp ≡ self.old.stamp)) }
+        ensures spare { self.old.spare ≤ self.new.spare }
+    {
+        let k = self.outputs.len() as u32;
+        match self.outputs.push(s) {
+            Ok(()) => {
+                count_all(&mut self.counts, &[s]);
+                self.stamp = self.stamp.saturating_add(1);
+                Ok(k)
+            }
+            Err(_) => Err(AllocError),
+        }
+    }
 }

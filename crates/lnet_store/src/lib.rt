@@ -2,6 +2,7 @@
 #![tactic(auto)]
 
 mod adding;
+mod changing;
 mod counting;
 mod look;
 mod slots;

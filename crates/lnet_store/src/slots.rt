@@ -1,14 +1,15 @@
 //! What stands at each number.
 
-ghost use Rattle.std.specs.Prelude.{◌≡◌, ◌≤◌, ◌<◌, ◌+◌, ◌↔◌, ℕ, IsTrue, IsSome, None, Some, IfOk, OnOk, OnErr, option_map, slice_index_or, ◌++◌, ◌-◌, length, replicate};
+ghost use Rattle.std.specs.Prelude.{◌≡◌, ◌≤◌, ◌<◌, ◌+◌, ◌↔◌, ℕ, IsTrue, IsSome, None, Some, IfOk, OnOk, OnErr, option_map, slice_index_or, ◌++◌, ◌-◌, length, replicate, slice_set};
 ghost use Rattle.std.specs.FinMap.{get, len, insert, remove, empty};
 ghost use Rattle.lnet_model.specs.Networks.{Constant, Input, IsGate, gate_in};
 ghost use Rattle.lnet_model.specs.Dags.{NUMBERS};
-ghost use Rattle.lnet_store.specs.Held.{entry_of, IsFitting};
+ghost use Rattle.lnet_store.specs.Held.{entry_of, entry_in, IsFitting};
 
 use lnet_gates::{Gate, Node};
 use std::alloc::{AllocError, Global};
 use std::marker::Model;
+use std::mem;
 
 /// What stands at a live number.
 #[derive(Drop)]
@@ -70,6 +71,40 @@ fn extend(slots: &mut Vec<Option<Slot>>, more: u32) -> Result<(), AllocError>
         slots.push_reserved(None);
     }
     Ok(())
+}
+
+/// Puts something else into the slot of the number, and gives back what was in it.
+fn exchange(slots: &mut Vec<Option<Slot>>, n: Node, slot: Option<Slot>) -> Option<Slot>
+    requires { n.0 < length slots.old.items }
+    ensures old { result ≡ slice_index_or slots.old.items n.0 None }
+    ensures new { slots.new.items ≡ slice_set slots.old.items n.0 slot }
+{
+    mem::replace(&mut slots[n.0 as usize], slot)
+}
+
+/// The gate of a slot that has one.
+fn gate_from(slot: Option<Slot>) -> Gate
+    requires { IsSome (gate_in (entry_in slot)) }
+    ensures { gate_in (entry_in slot) ≡ Some result }
+{
+    match slot {
+        Some(Slot::Gate(gate)) => gate,
+        _ => unreachable!(),
+    }
+}
+
+/// One past the greatest number below `numbers` that isn't free, 0 without one.
+fn top_of(slots: &[Option<Slot>], numbers: u32) -> u32
+    requires { numbers ≤ length slots.now }
+    ensures most { result ≤ numbers }
+    ensures past { (n : ℕ) → result ≤ n → n < numbers → slice_index_or slots.now n None ≡ None }
+    ensures top { (n : ℕ) → n + 1 ≡ result → IsSome (slice_index_or slots.now n None) }
+{
+    let mut top = numbers;
+    'search: while top > 0 && slots[top as usize - 1].is_none() {
+        top -= 1;
+    }
+    top
 }
 
 impl NodeSlots {
@@ -191,5 +226,31 @@ impl NodeSlots {
         self.live += 1;
         self.numbers = self.numbers.max(n.0 + 1);
         self.floor = n.0 + 1;
+    }
+
+    /// Sets another gate at a gate's number, and gives the old one back. Constant time.
+    pub(crate) fn set_gate(&mut self, n: Node, gate: Gate) -> Gate
+        requires { IsSome (gate_in (get self.old.nodes n.0)) }
+        ensures nodes { self.new.nodes ≡ insert self.old.nodes n.0 (IsGate gate) }
+        ensures room { self.new.room ≡ self.old.room }
+        ensures old { gate_in (get self.old.nodes n.0) ≡ Some result }
+        ensures fitting { IsFitting self.new }
+    {
+        gate_from(exchange(&mut self.slots, n, Some(Slot::Gate(gate))))
+    }
+
+    /// Takes the gate out of its slot. Constant time, amortized.
+    pub(crate) fn take_gate(&mut self, n: Node) -> Gate
+        requires { IsSome (gate_in (get self.old.nodes n.0)) }
+        ensures nodes { self.new.nodes ≡ remove self.old.nodes n.0 }
+        ensures room { self.new.room ≡ self.old.room }
+        ensures old { gate_in (get self.old.nodes n.0) ≡ Some result }
+        ensures fitting { IsFitting self.new }
+    {
+        let old = exchange(&mut self.slots, n, None);
+        self.live -= 1;
+        self.numbers = top_of(&self.slots, self.numbers);
+        self.floor = self.floor.min(n.0);
+        gate_from(old)
     }
 }

@@ -1,5 +1,5 @@
 -- How a change of one number changes the references, and how many there are.
-use Rattle.std.proofs.Common.{◌≡◌, ◌≢◌, ℕ, zero, suc, ◌+◌, ◌*◌, ◌<◌, ◌≤◌, max, Bool, true, false, cond, eqb, List, [], ◌∷◌, ◌++◌, length, IsSome, Option, None, Some, refl, sym, ap, subst, ◌∙◌, inl, inr, arith, length-append}
+use Rattle.std.proofs.Common.{◌≡◌, ◌≢◌, ℕ, zero, suc, ◌+◌, ◌*◌, ◌<◌, ◌≤◌, max, true, false, cond, eqb, List, [], ◌∷◌, ◌++◌, length, Option, None, Some, refl, sym, ap, ◌∙◌, inl, inr, arith, length-append}
 use Rattle.std.specs.Prelude.{count_by}
 use Rattle.std.specs.List.{flat_map}
 use Rattle.std.proofs.lemmas.Bool.Decides.{eqb_tells}
@@ -62,12 +62,12 @@ changed-at n g h p (suc k) a same le lt =
           let gp = ap (λ z. names_in n (g z)) e.1 in
           let hp = ap (λ z. names_in n (h z)) e.1 in
           omega arith
-        )
+          )
       | inr e ↦ (
           let rest = changed-at n g h p k (suc a) same (let ne = e.1 in omega arith) (omega arith) in
           let here = ap (names_in n) (same a e.1) in
           omega arith
-        )
+          )
     ]
 
 fan-upto : (N : NetworkValue) (n k : ℕ) → numbers_of N ≤ k → fan N n ≡ by_number (entry_at N) (pairs_of n) 0 k

@@ -1,5 +1,5 @@
 -- What a store keeps of its network stays with each change.
-use Rattle.std.proofs.Common.{Bool, ◌≡◌, ◌≢◌, ℕ, zero, suc, ◌+◌, ◌-◌, ◌<◌, ◌≤◌, true, false, cond, eqb, List, [], ◌∷◌, ◌++◌, map, length, IsSome, is_some, Option, None, Some, refl, sym, ap, subst, ◌∙◌, inl, inr, arith, slice_get}
+use Rattle.std.proofs.Common.{Bool, ◌≡◌, ◌≢◌, ℕ, ◌+◌, ◌-◌, ◌<◌, true, false, cond, eqb, List, [], ◌∷◌, ◌++◌, map, length, IsSome, is_some, None, Some, refl, sym, ap, subst, ◌∙◌, inl, inr, arith, slice_get}
 use Rattle.std.specs.Prelude.{◌⊎◌, count_by}
 use Rattle.std.proofs.lemmas.Bool.Decides.{eqb_tells}
 use Rattle.std.proofs.lemmas.Cmp.{nat_cmp_total}
@@ -8,11 +8,11 @@ use Rattle.std.specs.FinMap.{len, len-insert, len-remove, same_map, nat_cmp-IsAn
 use Rattle.lnet_gates.specs.declared.signal.Signal.{Signal}
 use Rattle.lnet_gates.specs.Gates.{GateValue}
 use Rattle.lnet_gates.specs.Plans.{Takes}
-use Rattle.lnet_model.specs.Networks.{Entry, Constant, Input, IsGate, NetworkValue, Lookup, entry_at, live_count, fanins_of, IsLive}
-use Rattle.lnet_model.specs.Along.{In, nodes_read, fanin_nodes, IsWalk, end_of, Reaches, NoCycle, Acyclic, IsClosed, IsWhole}
+use Rattle.lnet_model.specs.Networks.{Entry, Constant, Input, IsGate, NetworkValue, Lookup, entry_at, live_count, IsLive}
+use Rattle.lnet_model.specs.Along.{In, nodes_read, fanin_nodes, IsWalk, end_of, Reaches, Acyclic, IsClosed}
 use Rattle.lnet_model.specs.Fanouts.{fan, references, IsParent}
 use Rattle.lnet_model.specs.Changes.{with_entry, without, AreLive, GateAt, IsGateAt}
-use Rattle.lnet_model.specs.Dags.{IsDag, IsStored, AreBelow, NUMBERS}
+use Rattle.lnet_model.specs.Dags.{IsStored, AreBelow, NUMBERS}
 use Rattle.lnet_model.proofs.Map.{len_positive}
 use Rattle.lnet_model.proofs.Changes.{with_entry-here, with_entry-apart, without-here, without-apart, add-Acyclic, add-IsClosed}
 use Rattle.lnet_model.proofs.Fan.{parent-in-fan}
@@ -49,7 +49,7 @@ with-arities N k g takes old n h at = elim (eqb_tells n k) as (λ _. Takes h.op 
       let e : Some (IsGate g) ≡ Some (IsGate h) = sym (ap (entry_at (with_entry N k (IsGate g))) p.1 ∙ with_entry-here N k (IsGate g)) ∙ at in
       let same : g ≡ h = cc in
       subst (λ (z : GateValue). Takes z.op (length z.fanins)) same takes
-    )
+      )
   | inr p ↦ old n h (sym (with_entry-apart N k (IsGate g) n p.1) ∙ at)
 ]
 
@@ -57,13 +57,13 @@ with-arities N k g takes old n h at = elim (eqb_tells n k) as (λ _. Takes h.op 
 with-inputs : (N : NetworkValue) (k : ℕ) (g : GateValue) → ((j : ℕ) → entry_at N k ≡ Some (Input j) → ⊥) → ((n j : ℕ) → ((entry_at N n ≡ Some (Input j) → slice_get N.inputs j ≡ Some n) × (slice_get N.inputs j ≡ Some n → entry_at N n ≡ Some (Input j)))) → (n j : ℕ) → ((entry_at (with_entry N k (IsGate g)) n ≡ Some (Input j) → slice_get N.inputs j ≡ Some n) × (slice_get N.inputs j ≡ Some n → entry_at (with_entry N k (IsGate g)) n ≡ Some (Input j)))
 with-inputs N k g apart old n j = elim (eqb_tells n k) as (λ _. (entry_at (with_entry N k (IsGate g)) n ≡ Some (Input j) → slice_get N.inputs j ≡ Some n) × (slice_get N.inputs j ≡ Some n → entry_at (with_entry N k (IsGate g)) n ≡ Some (Input j))) [
   | inl p ↦ (
-      λ e. absurd (let z : Some (IsGate g) ≡ Some (Input j) = sym (ap (entry_at (with_entry N k (IsGate g))) p.1 ∙ with_entry-here N k (IsGate g)) ∙ e in cc),
-      λ e. absurd (apart j (sym (ap (entry_at N) p.1) ∙ (old n j).1 e))
-    )
+    λ e. absurd (let z : Some (IsGate g) ≡ Some (Input j) = sym (ap (entry_at (with_entry N k (IsGate g))) p.1 ∙ with_entry-here N k (IsGate g)) ∙ e in cc),
+    λ e. absurd (apart j (sym (ap (entry_at N) p.1) ∙ (old n j).1 e)),
+  )
   | inr p ↦ (
-      λ e. (old n j).0 (sym (with_entry-apart N k (IsGate g) n p.1) ∙ e),
-      λ e. with_entry-apart N k (IsGate g) n p.1 ∙ (old n j).1 e
-    )
+    λ e. (old n j).0 (sym (with_entry-apart N k (IsGate g) n p.1) ∙ e),
+    λ e. with_entry-apart N k (IsGate g) n p.1 ∙ (old n j).1 e,
+  )
 ]
 
 -- ---- a gate at a new number
@@ -242,7 +242,7 @@ module _ (N : NetworkValue) (k : ℕ) (stored : IsStored N) (gate : IsGateAt N k
     };
     inputs = λ q j. (
       λ e. (stored.inputs q j).0 (gate_then q (Input j) e),
-      λ e. (let at = (stored.inputs q j).1 e in without-apart N k q (λ is. let z : Some (Input j) ≡ Some (IsGate gate.0) = sym at ∙ ap (entry_at N) is ∙ gate.1 in cc) ∙ at)
+      λ e. (let at = (stored.inputs q j).1 e in without-apart N k q (λ is. let z : Some (Input j) ≡ Some (IsGate gate.0) = sym at ∙ ap (entry_at N) is ∙ gate.1 in cc) ∙ at),
     );
     below = λ q h. stored.below q (live_then q h);
     few_outputs = stored.few_outputs;

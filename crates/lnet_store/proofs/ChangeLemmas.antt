@@ -1,5 +1,5 @@
 -- The network after each change, its references, and that what a store keeps stays.
-use Rattle.std.proofs.Common.{Bool, ◌≡◌, ◌≢◌, ℕ, zero, suc, ◌+◌, ◌<◌, ◌≤◌, true, false, cond, eqb, List, [], ◌∷◌, ◌++◌, map, length, length-append, IsSome, is_some, Option, None, Some, get_or, refl, sym, ap, subst, ◌∙◌, inl, inr, arith, slice_get, slice_set}
+use Rattle.std.proofs.Common.{◌≡◌, ◌≢◌, ℕ, zero, suc, ◌+◌, ◌<◌, true, false, cond, eqb, List, [], ◌∷◌, ◌++◌, map, length, length-append, IsSome, is_some, Option, None, Some, get_or, refl, sym, ap, subst, ◌∙◌, inl, inr, arith, slice_get}
 use Rattle.std.proofs.Math.ListN.{set}
 use Rattle.std.specs.Prelude.{◌⊎◌}
 use Rattle.std.specs.Ordering.{nat_cmp}
@@ -8,15 +8,14 @@ use Rattle.std.proofs.lemmas.Bool.Decides.{eqb_tells}
 use Rattle.std.proofs.lemmas.Cmp.{nat_cmp_total}
 use Rattle.std.proofs.lemmas.List.{length-set}
 use Rattle.std.proofs.lemmas.List.Sums.{sum_by-cons, sum_by-append, sum_by-set}
-use Rattle.std.specs.FinMap.{FinMap, get, len, len-insert, insert, remove}
+use Rattle.std.specs.FinMap.{FinMap, len, len-insert, insert, remove}
 use Rattle.lnet_gates.specs.declared.signal.Node.{Node}
 use Rattle.lnet_gates.specs.declared.signal.Signal.{Signal}
 use Rattle.lnet_gates.specs.Gates.{GateValue}
-use Rattle.lnet_gates.specs.Plans.{Takes}
 use Rattle.lnet_model.specs.Networks.{NetworkValue, Entry, Constant, Input, IsGate, IsLive, entry_at, live_count}
-use Rattle.lnet_model.specs.Along.{In, nodes_read, fanin_nodes, Acyclic, IsClosed}
+use Rattle.lnet_model.specs.Along.{In, nodes_read, IsClosed}
 use Rattle.lnet_model.specs.Fanouts.{references}
-use Rattle.lnet_model.specs.Changes.{with_entry, without, AreLive, GateAt, IsGateAt, IsLeastFree}
+use Rattle.lnet_model.specs.Changes.{with_entry, without, GateAt}
 use Rattle.lnet_model.specs.Dags.{IsStored, AreBelow, NUMBERS, OUTPUTS}
 use Rattle.lnet_model.proofs.Map.{Apart, count_apart}
 use Rattle.lnet_model.proofs.Changes.{with_entry-here, with_entry-apart, without-here, without-apart, add-Acyclic, add-IsClosed}
@@ -136,11 +135,11 @@ module _ (N : NetworkValue) (k : ℕ) (stored : IsStored N) (free : entry_at N k
         let same : Some (Input (length N.inputs)) ≡ Some (Input j) = sym (ap (entry_at (with_entry N k (Input (length N.inputs)))) p.1 ∙ with_entry-here N k (Input (length N.inputs))) ∙ e in
         let is : length N.inputs ≡ j = cc in
         subst (λ z. slice_get (N.inputs ++ k ∷ []) z ≡ Some n) is (get-last N.inputs k ∙ ap (λ z. Some z) (sym p.1))
-      )
+        )
     | inr p ↦ (
         let old = (stored.inputs n j).0 (sym (with_entry-apart N k (Input (length N.inputs)) n p.1) ∙ e) in
         get-append N.inputs k j (get-within N.inputs j n old) ∙ old
-      )
+        )
   ]
 
   input-back : (n j : ℕ) → slice_get (N.inputs ++ k ∷ []) j ≡ Some n → entry_at (with_entry N k (Input (length N.inputs))) n ≡ Some (Input j)
@@ -148,7 +147,7 @@ module _ (N : NetworkValue) (k : ℕ) (stored : IsStored N) (free : entry_at N k
     | inl lt ↦ (
         let old = (stored.inputs n j).1 (sym (get-append N.inputs k j lt) ∙ e) in
         with_entry-apart N k (Input (length N.inputs)) n (apart-live n (subst IsSome (sym old) refl)) ∙ old
-      )
+        )
     | inr ge ↦ (
         let within = get-within (N.inputs ++ k ∷ []) j n e in
         let more = length-append N.inputs (k ∷ []) in
@@ -156,7 +155,7 @@ module _ (N : NetworkValue) (k : ℕ) (stored : IsStored N) (free : entry_at N k
         let same : Some k ≡ Some n = sym (get-last N.inputs k) ∙ ap (slice_get (N.inputs ++ k ∷ [])) is ∙ e in
         let here : n ≡ k = cc in
         ap (entry_at (with_entry N k (Input (length N.inputs)))) here ∙ with_entry-here N k (Input (length N.inputs)) ∙ ap (λ z. Some (Input z)) is
-      )
+        )
   ]
 
   input-gate : (n : ℕ) (h : GateValue) → GateAt (with_entry N k (Input (length N.inputs))) n h → GateAt N n h
@@ -198,9 +197,9 @@ module _ (N : NetworkValue) (k : ℕ) (stored : IsStored N) (free : entry_at N k
   unfolding live_count with_input entry_at
   count-input = len-insert nat_cmp_total N.nodes k (Input (length N.inputs)) ∙ ap (λ o. cond (is_some o) (len N.nodes) (len N.nodes + 1)) free
 
-  pub input-was : without (with_input N k) k ≡ record N { inputs = (with_input N k).inputs }
-  unfolding without with_input with_entry
-  input-was = ap (λ (M : NetworkValue). record M { inputs = N.inputs ++ k ∷ [] }) (take_back N k (Input (length N.inputs)) free)
+pub input-was : (N : NetworkValue) (k : ℕ) → entry_at N k ≡ None → without (with_input N k) k ≡ record N { inputs = (with_input N k).inputs }
+unfolding without with_input with_entry
+input-was N k free = ap (λ (M : NetworkValue). record M { inputs = N.inputs ++ k ∷ [] }) (take_back N k (Input (length N.inputs)) free)
 
 -- ---- with other outputs
 

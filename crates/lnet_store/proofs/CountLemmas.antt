@@ -1,5 +1,5 @@
 -- Counting signals one after another.
-use Rattle.std.proofs.Common.{◌≡◌, ◌≢◌, ℕ, zero, suc, ◌+◌, ◌-◌, ◌<◌, ◌≤◌, Bool, true, false, cond, eqb, List, [], ◌∷◌, length, take, get_or, refl, sym, ap, subst, ◌∙◌, inl, inr, arith, get_or-set_same, get_or-set_other}
+use Rattle.std.proofs.Common.{◌≡◌, ◌≢◌, ℕ, zero, suc, ◌+◌, ◌-◌, ◌<◌, ◌≤◌, Bool, true, false, cond, eqb, List, [], ◌∷◌, length, take, get_or, refl, sym, subst, inl, inr, arith, get_or-set_same, get_or-set_other}
 use Rattle.std.proofs.Math.ListN.{set}
 use Rattle.std.proofs.lemmas.Bool.Decides.{eqb_tells}
 use Rattle.std.proofs.lemmas.List.Sums.{sum_by_more, sum_by-take-le}
@@ -57,13 +57,13 @@ module _ (ss : List Signal) (i : ℕ) (d : Signal) (lt : i < length ss) where
           let before = so (get_or ss i d).node.0 in
           let step = more-here (get_or ss i d).node.0 refl in
           subst (λ z. get_or (set counts (get_or ss i d).node.0 (v + 1)) z 0 ≡ old z + naming z (take (i + 1) ss)) (sym p.1) (omega arith)
-        )
+          )
       | inr p ↦ (
           let there = get_or-set_other counts (get_or ss i d).node.0 n (v + 1) 0 p.1 in
           let before = so n in
           let step = more-apart n (λ e. p.1 (sym e)) in
           omega arith
-        )
+          )
     ]
 
     pub counted-less : ((n : ℕ) → get_or counts n 0 + naming n (take i ss) ≡ old n) → (v : ℕ) → v ≡ get_or counts (get_or ss i d).node.0 0 → 1 ≤ v → (n : ℕ) → get_or (set counts (get_or ss i d).node.0 (v - 1)) n 0 + naming n (take (i + 1) ss) ≡ old n
@@ -73,11 +73,11 @@ module _ (ss : List Signal) (i : ℕ) (d : Signal) (lt : i < length ss) where
           let before = so (get_or ss i d).node.0 in
           let step = more-here (get_or ss i d).node.0 refl in
           subst (λ z. get_or (set counts (get_or ss i d).node.0 (v - 1)) z 0 + naming z (take (i + 1) ss) ≡ old z) (sym p.1) (omega arith)
-        )
+          )
       | inr p ↦ (
           let there = get_or-set_other counts (get_or ss i d).node.0 n (v - 1) 0 p.1 in
           let before = so n in
           let step = more-apart n (λ e. p.1 (sym e)) in
           omega arith
-        )
+          )
     ]

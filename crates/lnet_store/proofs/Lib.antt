@@ -3,3 +3,4 @@ pub mod ParentLemmas
 pub mod StoreLemmas
 pub mod CountLemmas
 pub mod ChangeLemmas
+pub mod KeptLemmas

@@ -257,7 +257,7 @@ module _ (slots : List (Option Slot)) (live numbers floor : ℕ) (c : IsCounted 
           | inr ge ↦ (
               let none = get-held (set slots n None) m ∙ ap entry_in (past m ge (c.below m (live-cleared m h))) in
               absurd (let z : false ≡ true = subst IsSome none h in cc)
-            )
+              )
         ];
         top = λ m e. subst IsSome (sym (get-held (set slots n None) m)) (some-in (get_or (set slots n None) m None) (here m e));
         none_free = λ m h. subst IsSome (sym (clear-apart m (let lt : m < n = omega arith in omega arith))) (c.none_free m (omega arith));

@@ -145,3 +145,8 @@ counts-same counts counts2 N same h k = same k ∙ h k
 pub on-ok : {A B : Type 0} {P Q : Type 0} (r : Result A B) → (P → Q) → OnOk r P → OnOk r Q
 on-ok (Ok x) f h = f h
 on-ok (Err e) f h = tt
+
+pub read-place : (os : List Signal) (k : ℕ) (o : Signal) → k < length os → o ≡ get_or os k o → In o.node.0 (nodes_read os)
+read-place [] k o lt e = absurd (omega arith)
+read-place (s ∷ ss) zero o lt e = inl (ap (λ (s : Signal). s.node.0) e)
+read-place (s ∷ ss) (suc k) o lt e = inr (read-place ss k o (omega arith) e)

@@ -1,7 +1,6 @@
 -- What a store, a reader of it and a counter of reads hold, as contracts see them.
 use Rattle.std.specs.Prelude.{ℕ, ◌⊎◌, ◌+◌, ◌-◌, ◌^◌, List, [], ◌∷◌, ◌++◌, length, min, refl, slice_set, ◌≡◌}
 use Rattle.std.specs.Coded.{Coded, code_by, coded×, coded_ℕ}
-use Rattle.std.specs.Ordering.{nat_cmp}
 use Rattle.std.specs.FinMap.{empty, insert}
 use Rattle.lnet_gates.specs.declared.gate.Kind.TheVariants.{Klut}
 use Rattle.lnet_gates.specs.declared.signal.Signal.{Signal}

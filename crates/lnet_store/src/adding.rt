@@ -28,7 +28,13 @@ fn lengthen<T: Copy>(items: &mut Vec<T>, len: usize, value: T) -> Result<(), All
 }
 
 /// Places for so many inputs, counts and marks, and of the queue. What they hold stays, whatever it answers.
-fn get_places(inputs: &mut Vec<Node>, counts: &mut Vec<u32>, marks: &mut Vec<bool>, queue: &mut Vec<u32>, room: usize) -> Result<(), AllocError>
+fn get_places(
+    inputs: &mut Vec<Node>,
+    counts: &mut Vec<u32>,
+    marks: &mut Vec<bool>,
+    queue: &mut Vec<u32>,
+    room: usize,
+) -> Result<(), AllocError>
     ensures inputs { inputs.new.items ≡ inputs.old.items }
     ensures capacity { vec_capacity inputs.old ≤ vec_capacity inputs.new }
     ensures counts { (k : ℕ) → slice_index counts.new.items k ≡ slice_index counts.old.items k }

@@ -1,7 +1,6 @@
-use Rattle.std.proofs.Common.{refl, ◌≡◌, ℕ, ◌+◌, ◌-◌, ◌<◌, ◌≤◌, ◌^◌, length, length-set, take, get_or, false, subst, ap, sym, ◌∙◌, arith}
+use Rattle.std.proofs.Common.{refl, ◌≡◌, ◌+◌, ◌<◌, length, length-set, get_or, false, ◌∙◌, arith}
 use Rattle.lnet_gates.specs.declared.signal.Signal.{Signal}
-use Rattle.lnet_store.specs.Fields.{naming}
-use Rattle.lnet_store.proofs.CountLemmas.{get-default, read-In, one-more, counted-more, counted-less}
+use Rattle.lnet_store.proofs.CountLemmas.{get-default, read-In, one-more, counted-more}
 use Rattle.lnet_store.proofs.counting.count_all.Goals as goal
 
 abbrev past : Signal

@@ -1,8 +1,7 @@
-use Rattle.std.proofs.Common.{◌≡◌, ℕ, ◌+◌, ◌<◌, ◌≤◌, max, Some, IsSome, None, length, subst, ap, sym, ◌∙◌, arith}
+use Rattle.std.proofs.Common.{◌+◌, Some, IsSome, subst, ap, sym, ◌∙◌, arith}
 use Rattle.std.proofs.Math.ListN.{set}
 use Rattle.std.specs.FinMap.{get, insert, len}
-use Rattle.lnet_model.specs.Dags.{NUMBERS}
-use Rattle.lnet_store.specs.Held.{Numbered, held, entry_of, IsCounted}
+use Rattle.lnet_store.specs.Held.{Numbered, entry_of, IsCounted}
 use Rattle.lnet_store.proofs.SlotLemmas.{fitting, free-inside, counted-filled, held-set}
 use Rattle.lnet_store.proofs.slots.NodeSlots.fill.Goals as goal
 
@@ -40,7 +39,7 @@ returns-clause-fitting c =
     let e = ap (λ (h : Numbered). h.nodes) c.self.view_is in
     let r = ap (λ (h : Numbered). h.room) c.self.view_is in
     fitting (set c.self.inside.slots.items c.args.n.0 (Some c.args.slot)) (c.self.inside.live + 1) c.max-self-inside.result (c.args.n.0 + 1) (
-      subst (λ z. IsCounted (set c.self.inside.slots.items c.args.n.0 (Some c.args.slot)) (c.self.inside.live + 1) z (c.args.n.0 + 1)) (sym c.max-self-inside.ensures)
+    subst (λ z. IsCounted (set c.self.inside.slots.items c.args.n.0 (Some c.args.slot)) (c.self.inside.live + 1) z (c.args.n.0 + 1)) (sym c.max-self-inside.ensures)
     (counted-filled c.self.inside.slots.items c.self.inside.live c.self.inside.numbers c.self.inside.floor c.self.invariant c.args.n.0 c.args.slot (ap (λ m. get m c.args.n.0) e ∙ c.requires.free) (λ m lt. subst (λ z. IsSome (get z m)) (sym e) (c.requires.least m lt)) (let s = c.requires.space in let l = ap len e in omega arith))
     )
 

@@ -1,5 +1,4 @@
-use Rattle.std.proofs.Common.{◌≡◌, ℕ, ◌+◌, ◌-◌, ◌<◌, ◌≤◌, ◌++◌, None, List, Option, replicate, length, subst, ap, sym, ◌∙◌, arith}
-use Rattle.lnet_model.specs.Dags.{NUMBERS}
+use Rattle.std.proofs.Common.{◌-◌, List, Option, length, subst, ap, sym, ◌∙◌, arith}
 use Rattle.lnet_store.specs.Held.{Numbered, held, IsCounted}
 use Rattle.lnet_store.specs.declared.slots.Slot.{Slot}
 use Rattle.lnet_store.proofs.SlotLemmas.{fitting, held-grown, counted-grown}
@@ -18,6 +17,6 @@ returns-clause-nodes c =
 pub returns-clause-fitting : goal.returns-clause-fitting
 returns-clause-fitting c =
     fitting c.extend.new.slots.items c.self.inside.live c.self.inside.numbers c.self.inside.floor (
-      subst (λ (xs : List (Option Slot)). IsCounted xs c.self.inside.live c.self.inside.numbers c.self.inside.floor) (sym c.extend.ensures.items)
+    subst (λ (xs : List (Option Slot)). IsCounted xs c.self.inside.live c.self.inside.numbers c.self.inside.floor) (sym c.extend.ensures.items)
     (counted-grown c.self.inside.slots.items c.self.inside.live c.self.inside.numbers c.self.inside.floor (length c.extend.new.slots.items - length c.self.inside.slots.items) c.self.invariant (let most = c.extend.ensures.most in let within = c.requires.within in let more = c.requires.more in let r = ap (λ (h : Numbered). h.room) c.self.view_is in omega arith))
     )

@@ -1,6 +1,6 @@
-use Rattle.std.proofs.Common.{◌≡◌, ℕ, ◌+◌, ◌<◌, ◌≤◌, IsSome, length, subst, ap, sym, ◌∙◌, arith}
-use Rattle.std.specs.FinMap.{get, len}
-use Rattle.lnet_store.specs.Held.{Numbered, held}
+use Rattle.std.proofs.Common.{IsSome, subst, ap, sym, arith}
+use Rattle.std.specs.FinMap.{get}
+use Rattle.lnet_store.specs.Held.{Numbered}
 use Rattle.lnet_store.proofs.SlotLemmas.{held-inside, all-live}
 use Rattle.lnet_store.proofs.slots.NodeSlots.next_free.Goals as goal
 

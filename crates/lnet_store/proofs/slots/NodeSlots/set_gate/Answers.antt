@@ -1,11 +1,10 @@
-use Rattle.std.proofs.Common.{◌≡◌, ℕ, ◌+◌, ◌-◌, ◌<◌, ◌≤◌, min, Some, None, List, Option, IsSome, get_or, length, length-set, subst, ap, sym, ◌∙◌, arith}
-use Rattle.std.proofs.Math.ListN.{set}
-use Rattle.std.specs.FinMap.{get, insert, remove}
+use Rattle.std.proofs.Common.{Some, List, Option, IsSome, length, length-set, subst, ap, sym, ◌∙◌}
+use Rattle.std.specs.FinMap.{get, insert}
 use Rattle.lnet_model.specs.Networks.{IsGate, gate_in}
-use Rattle.lnet_store.specs.Held.{Numbered, held, entry_of, entry_in, IsCounted}
+use Rattle.lnet_store.specs.Held.{Numbered, held, entry_in, IsCounted}
 use Rattle.lnet_store.specs.declared.slots.Slot.{Slot}
 use Rattle.lnet_store.specs.declared.slots.Slot.TheVariants as slot
-use Rattle.lnet_store.proofs.SlotLemmas.{fitting, get-held, there-inside, counted-set, counted-cleared, some-live, gate-live, held-set, held-clear, numbers-fit}
+use Rattle.lnet_store.proofs.SlotLemmas.{fitting, get-held, there-inside, counted-set, gate-live, held-set}
 use Rattle.lnet_store.proofs.slots.NodeSlots.set_gate.Goals as goal
 
 pub exchange-requires : goal.exchange-requires

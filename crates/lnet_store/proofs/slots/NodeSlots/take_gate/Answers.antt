@@ -1,11 +1,10 @@
-use Rattle.std.proofs.Common.{◌≡◌, ℕ, ◌+◌, ◌-◌, ◌<◌, ◌≤◌, min, Some, None, List, Option, IsSome, get_or, length, length-set, subst, ap, sym, ◌∙◌, arith}
+use Rattle.std.proofs.Common.{◌≡◌, ◌-◌, None, List, Option, IsSome, get_or, length, length-set, subst, ap, sym, ◌∙◌, arith}
 use Rattle.std.proofs.Math.ListN.{set}
-use Rattle.std.specs.FinMap.{get, insert, remove}
-use Rattle.lnet_model.specs.Networks.{IsGate, gate_in}
-use Rattle.lnet_store.specs.Held.{Numbered, held, entry_of, entry_in, IsCounted}
+use Rattle.std.specs.FinMap.{get, remove}
+use Rattle.lnet_model.specs.Networks.{gate_in}
+use Rattle.lnet_store.specs.Held.{Numbered, held, entry_in, IsCounted}
 use Rattle.lnet_store.specs.declared.slots.Slot.{Slot}
-use Rattle.lnet_store.specs.declared.slots.Slot.TheVariants as slot
-use Rattle.lnet_store.proofs.SlotLemmas.{fitting, get-held, there-inside, counted-set, counted-cleared, some-live, gate-live, held-set, held-clear, numbers-fit}
+use Rattle.lnet_store.proofs.SlotLemmas.{fitting, get-held, there-inside, counted-cleared, some-live, gate-live, held-clear, numbers-fit}
 use Rattle.lnet_store.proofs.slots.NodeSlots.take_gate.Goals as goal
 
 pub exchange-old-requires : goal.exchange-old-requires

@@ -33,7 +33,7 @@ fanin-live N n m g stored at i = stored.dag.closed n m (subst (λ o. In m (fanin
 
 -- ---- memory
 
-pub counts-known : (nodes : Numbered) (places : ℕ) (inputs : List Node) (outputs : List Signal) (counts : List ℕ) (marks : List Bool) (queue : List ℕ) (N : NetworkValue) → HasRoom nodes places inputs counts marks queue → network_of nodes.nodes inputs outputs ≡ N → (m : ℕ) → IsLive N m → m < length counts
+pub counts-known : (nodes : Numbered) (places : ℕ) (inputs : List Node) (outputs : List Signal) (counts : List ℕ) (marks : List Bool) (queue : ℕ) (N : NetworkValue) → HasRoom nodes places inputs counts marks queue → network_of nodes.nodes inputs outputs ≡ N → (m : ℕ) → IsLive N m → m < length counts
 counts-known nodes places inputs outputs counts marks queue N h is m live =
     let lt = h.fitting.within m (subst IsSome (sym (entry-of nodes.nodes inputs outputs N is m)) live) in
     let le = h.counts_fit in
@@ -53,7 +53,7 @@ counts-fit counts N refs stored ss six n =
 pub gate-six : (g : GateValue) → Takes g.op (length g.fanins) → length g.fanins ≤ 6
 gate-six g takes = takes-six g.op (length g.fanins) takes
 
-pub room-kept : (nodes nodes2 : Numbered) (places : ℕ) (inputs : List Node) (counts counts2 : List ℕ) (marks : List Bool) (queue : List ℕ) → HasRoom nodes places inputs counts marks queue → IsFitting nodes2 → nodes2.room ≡ nodes.room → length counts2 ≡ length counts → HasRoom nodes2 places inputs counts2 marks queue
+pub room-kept : (nodes nodes2 : Numbered) (places : ℕ) (inputs : List Node) (counts counts2 : List ℕ) (marks : List Bool) (queue : ℕ) → HasRoom nodes places inputs counts marks queue → IsFitting nodes2 → nodes2.room ≡ nodes.room → length counts2 ≡ length counts → HasRoom nodes2 places inputs counts2 marks queue
 room-kept nodes nodes2 places inputs counts counts2 marks queue h f r c =
     let a = h.inputs_fit in
     let b = h.counts_fit in

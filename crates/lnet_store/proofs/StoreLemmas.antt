@@ -124,7 +124,7 @@ first-references n = zeros n ∙ sym (first-named n)
 
 -- ---- more memory
 
-pub room-more : (nodes nodes2 : Numbered) (places places2 : ℕ) (inputs inputs2 : List Node) (counts counts2 : List ℕ) (marks marks2 : List Bool) (queue queue2 : List ℕ) → HasRoom nodes places inputs counts marks queue → IsFitting nodes2 → nodes2.room ≤ places2 → inputs2 ≡ inputs → nodes2.room ≤ length counts2 → nodes2.room ≤ length marks2 → ((k : ℕ) → get_or marks2 k false ≡ get_or marks k false) → nodes2.room ≤ length queue2 → HasRoom nodes2 places2 inputs2 counts2 marks2 queue2
+pub room-more : (nodes nodes2 : Numbered) (places places2 : ℕ) (inputs inputs2 : List Node) (counts counts2 : List ℕ) (marks marks2 : List Bool) (queue queue2 : ℕ) → HasRoom nodes places inputs counts marks queue → IsFitting nodes2 → nodes2.room ≤ places2 → inputs2 ≡ inputs → nodes2.room ≤ length counts2 → nodes2.room ≤ length marks2 → ((k : ℕ) → get_or marks2 k false ≡ get_or marks k false) → nodes2.room ≤ queue2 → HasRoom nodes2 places2 inputs2 counts2 marks2 queue2
 room-more nodes nodes2 places places2 inputs inputs2 counts counts2 marks marks2 queue queue2 h f p i c m same q = record {
   fitting = f;
   inputs_fit = p;

@@ -22,12 +22,12 @@ naming n ss = count_by (λ (s : Signal). eqb s.node.0 n) ss
 unfoldable pub AreReferences : List ℕ → NetworkValue → Type 0
 AreReferences counts N = (n : ℕ) → slice_index counts n ≡ references N n
 
--- memory for each number that has a slot: a place for an input, a count, an unset mark and a place of the queue
-pub record HasRoom (nodes : Numbered) (places : ℕ) (inputs : List Node) (counts : List ℕ) (marks : List Bool) (queue : List ℕ) : Type 0 where
+-- memory for each number that has a slot: a place for an input, a count, an unset mark and a place in a queue
+pub record HasRoom (nodes : Numbered) (places : ℕ) (inputs : List Node) (counts : List ℕ) (marks : List Bool) (queue : ℕ) : Type 0 where
   pub fitting : IsFitting nodes
   pub inputs_fit : nodes.room ≤ places
   pub few_inputs : length inputs ≤ NUMBERS
   pub counts_fit : nodes.room ≤ length counts
   pub marks_fit : nodes.room ≤ length marks
   pub unmarked : (n : ℕ) → slice_index_or marks n false ≡ false
-  pub queue_fits : nodes.room ≤ length queue
+  pub queue_fits : nodes.room ≤ queue

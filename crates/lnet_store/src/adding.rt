@@ -41,13 +41,13 @@ fn get_places(
     ensures counts_grow { length counts.old.items ≤ length counts.new.items }
     ensures marks { (k : ℕ) → slice_index_or marks.new.items k false ≡ slice_index_or marks.old.items k false }
     ensures marks_grow { length marks.old.items ≤ length marks.new.items }
-    ensures queue_grows { length queue.old.items ≤ length queue.new.items }
-    ensures ok { OnOk result ((room ≤ vec_capacity inputs.new) × (room ≤ length counts.new.items) × (room ≤ length marks.new.items) × (room ≤ length queue.new.items)) }
+    ensures queue_grows { vec_capacity queue.old ≤ vec_capacity queue.new }
+    ensures ok { OnOk result ((room ≤ vec_capacity inputs.new) × (room ≤ length counts.new.items) × (room ≤ length marks.new.items) × (room ≤ vec_capacity queue.new)) }
 {
     inputs.reserve(room)?;
     lengthen(counts, room, 0)?;
     lengthen(marks, room, false)?;
-    lengthen(queue, room, 0)?;
+    queue.reserve(room)?;
     Ok(())
 }
 

@@ -52,7 +52,7 @@ impl Model for Store {
 
     ghost view = { λ s. record { network = network_of s.nodes.nodes s.inputs.items s.outputs.items; spare = s.nodes.room - len s.nodes.nodes; stamp = s.stamp } };
 
-    ghost invariant = { λ s. IsStored (network_of s.nodes.nodes s.inputs.items s.outputs.items) × HasRoom s.nodes (vec_capacity s.inputs) s.inputs.items s.counts.items s.marks.items s.queue.items × AreReferences s.counts.items (network_of s.nodes.nodes s.inputs.items s.outputs.items) };
+    ghost invariant = { λ s. IsStored (network_of s.nodes.nodes s.inputs.items s.outputs.items) × HasRoom s.nodes (vec_capacity s.inputs) s.inputs.items s.counts.items s.marks.items (vec_capacity s.queue) × AreReferences s.counts.items (network_of s.nodes.nodes s.inputs.items s.outputs.items) };
 }
 
 impl Store {
@@ -67,8 +67,7 @@ impl Store {
         counts.push(0)?;
         let mut marks = Vec::new(alloc);
         marks.push(false)?;
-        let mut queue = Vec::new(alloc);
-        queue.push(0)?;
+        let queue = Vec::with_capacity(alloc, 1)?;
         Ok(Store {
             nodes,
             inputs,

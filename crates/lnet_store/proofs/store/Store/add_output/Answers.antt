@@ -27,7 +27,7 @@ count_all-requires-clause-known c m i =
     let stored : IsStored c.args.self.now.network = subst IsStored is c.self.invariant.0 in
     let refs : AreReferences c.self.inside.counts.items c.args.self.now.network = subst (AreReferences c.self.inside.counts.items) is c.self.invariant.2 in
     let room = c.self.invariant.1 in
-    elim i as (λ _. m < length c.self.inside.counts.items) [ inl e ↦ counts-known c.self.inside.nodes (vec_capacity c.self.inside.inputs) c.self.inside.inputs.items c.self.inside.outputs.items c.self.inside.counts.items c.self.inside.marks.items c.self.inside.queue.items c.args.self.now.network room is m (subst (IsLive c.args.self.now.network) (sym e) c.requires.live) | inr j ↦ absurd j ]
+    elim i as (λ _. m < length c.self.inside.counts.items) [ inl e ↦ counts-known c.self.inside.nodes (vec_capacity c.self.inside.inputs) c.self.inside.inputs.items c.self.inside.outputs.items c.self.inside.counts.items c.self.inside.marks.items (vec_capacity c.self.inside.queue) c.args.self.now.network room is m (subst (IsLive c.args.self.now.network) (sym e) c.requires.live) | inr j ↦ absurd j ]
 
 pub count_all-requires-clause-fits : goal.count_all-requires-clause-fits
 count_all-requires-clause-fits c =
@@ -47,7 +47,7 @@ invariant_of-self c =
     let room = c.self.invariant.1 in
     let to = network-new_output I.nodes.nodes I.inputs.items I.outputs.items c.push.new.self.items c.args.self.now.network is c.args.s c.in-Ok.ensures.items in (
       subst IsStored (sym to) (stored-new_output c.args.self.now.network c.args.s stored c.requires.live c.requires.few),
-      room-kept I.nodes I.nodes (vec_capacity I.inputs) I.inputs.items I.counts.items c.count_all.new.counts.items I.marks.items I.queue.items room room.fitting refl c.count_all.ensures.len,
+      room-kept I.nodes I.nodes (vec_capacity I.inputs) I.inputs.items I.counts.items c.count_all.new.counts.items I.marks.items (vec_capacity I.queue) room room.fitting refl c.count_all.ensures.len,
       subst (AreReferences c.count_all.new.counts.items) (sym to) (kept-new_output I.counts.items c.count_all.new.counts.items c.args.self.now.network refs c.args.s c.count_all.ensures.more),
     )
 

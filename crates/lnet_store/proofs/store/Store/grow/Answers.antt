@@ -21,7 +21,7 @@ invariant_of-self c =
     let same = network-same I.nodes.nodes c.grow.new.self.nodes I.inputs.items c.get_places.new.inputs.items I.outputs.items c.grow.ensures.nodes p.inputs in
     let most = c.grow.ensures.most in (
       subst IsStored (sym same) c.self.invariant.0,
-      room-more I.nodes c.grow.new.self (vec_capacity I.inputs) (vec_capacity c.get_places.new.inputs) I.inputs.items c.get_places.new.inputs.items I.counts.items c.get_places.new.counts.items I.marks.items c.get_places.new.marks.items I.queue.items c.get_places.new.queue.items c.self.invariant.1 c.grow.ensures.fitting (let a = p.ok.0 in omega arith) p.inputs (let a = p.ok.1 in omega arith) (let a = p.ok.2 in omega arith) p.marks (let a = p.ok.3 in omega arith),
+      room-more I.nodes c.grow.new.self (vec_capacity I.inputs) (vec_capacity c.get_places.new.inputs) I.inputs.items c.get_places.new.inputs.items I.counts.items c.get_places.new.counts.items I.marks.items c.get_places.new.marks.items (vec_capacity I.queue) (vec_capacity c.get_places.new.queue) c.self.invariant.1 c.grow.ensures.fitting (let a = p.ok.0 in omega arith) p.inputs (let a = p.ok.1 in omega arith) (let a = p.ok.2 in omega arith) p.marks (let a = p.ok.3 in omega arith),
       subst (AreReferences c.get_places.new.counts.items) (sym same) (counts-same I.counts.items c.get_places.new.counts.items (network_of I.nodes.nodes I.inputs.items I.outputs.items) p.counts c.self.invariant.2),
     )
 
@@ -32,7 +32,7 @@ invariant_of-self-in-Err c =
     let same = network-same I.nodes.nodes I.nodes.nodes I.inputs.items c.get_places.new.inputs.items I.outputs.items refl p.inputs in
     let h = c.self.invariant.1 in (
       subst IsStored (sym same) c.self.invariant.0,
-      room-more I.nodes I.nodes (vec_capacity I.inputs) (vec_capacity c.get_places.new.inputs) I.inputs.items c.get_places.new.inputs.items I.counts.items c.get_places.new.counts.items I.marks.items c.get_places.new.marks.items I.queue.items c.get_places.new.queue.items c.self.invariant.1 h.fitting (let a = h.inputs_fit in let b = p.capacity in omega arith) p.inputs (let a = h.counts_fit in let b = p.counts_grow in omega arith) (let a = h.marks_fit in let b = p.marks_grow in omega arith) p.marks (let a = h.queue_fits in let b = p.queue_grows in omega arith),
+      room-more I.nodes I.nodes (vec_capacity I.inputs) (vec_capacity c.get_places.new.inputs) I.inputs.items c.get_places.new.inputs.items I.counts.items c.get_places.new.counts.items I.marks.items c.get_places.new.marks.items (vec_capacity I.queue) (vec_capacity c.get_places.new.queue) c.self.invariant.1 h.fitting (let a = h.inputs_fit in let b = p.capacity in omega arith) p.inputs (let a = h.counts_fit in let b = p.counts_grow in omega arith) (let a = h.marks_fit in let b = p.marks_grow in omega arith) p.marks (let a = h.queue_fits in let b = p.queue_grows in omega arith),
       subst (AreReferences c.get_places.new.counts.items) (sym same) (counts-same I.counts.items c.get_places.new.counts.items (network_of I.nodes.nodes I.inputs.items I.outputs.items) p.counts c.self.invariant.2),
     )
 

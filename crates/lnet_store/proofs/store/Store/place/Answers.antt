@@ -21,7 +21,7 @@ count_all-requires-clause-known c m i =
     let refs : AreReferences c.self.inside.counts.items c.args.self.now.network = subst (AreReferences c.self.inside.counts.items) is c.self.invariant.2 in
     let room = c.self.invariant.1 in
     let fanins : c.deref.result.now ≡ c.args.gate.fanins = c.deref.ensures.0 ∙ ap (λ (g : GateValue). g.fanins) c.gate.view_is in
-    counts-known c.self.inside.nodes (vec_capacity c.self.inside.inputs) c.self.inside.inputs.items c.self.inside.outputs.items c.self.inside.counts.items c.self.inside.marks.items c.self.inside.queue.items c.args.self.now.network room is m (c.requires.live m (subst (λ (ss : List Signal). In m (nodes_read ss)) fanins i))
+    counts-known c.self.inside.nodes (vec_capacity c.self.inside.inputs) c.self.inside.inputs.items c.self.inside.outputs.items c.self.inside.counts.items c.self.inside.marks.items (vec_capacity c.self.inside.queue) c.args.self.now.network room is m (c.requires.live m (subst (λ (ss : List Signal). In m (nodes_read ss)) fanins i))
 
 pub count_all-requires-clause-fits : goal.count_all-requires-clause-fits
 count_all-requires-clause-fits c =
@@ -49,7 +49,7 @@ invariant_of-self c =
     let fanins : c.deref.result.now ≡ c.args.gate.fanins = c.deref.ensures.0 ∙ ap (λ (g : GateValue). g.fanins) c.gate.view_is in
     let to = network-with I.nodes.nodes c.fill.new.self.nodes I.inputs.items I.outputs.items c.args.self.now.network is c.args.n.0 (IsGate c.args.gate) c.fill.ensures.nodes in (
       subst IsStored (sym to) (stored-add c.args.self.now.network c.args.n.0 c.args.gate stored c.requires.number.free c.requires.live c.requires.arity c.fill.ensures.within),
-      room-kept I.nodes c.fill.new.self (vec_capacity I.inputs) I.inputs.items I.counts.items c.count_all.new.counts.items I.marks.items I.queue.items room c.fill.ensures.fitting c.fill.ensures.room c.count_all.ensures.len,
+      room-kept I.nodes c.fill.new.self (vec_capacity I.inputs) I.inputs.items I.counts.items c.count_all.new.counts.items I.marks.items (vec_capacity I.queue) room c.fill.ensures.fitting c.fill.ensures.room c.count_all.ensures.len,
       subst (AreReferences c.count_all.new.counts.items) (sym to) (kept-add I.counts.items c.count_all.new.counts.items c.args.self.now.network refs c.args.n.0 c.args.gate c.deref.result.now fanins c.requires.number.free c.count_all.ensures.more),
     )
 

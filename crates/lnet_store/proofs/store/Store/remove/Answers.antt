@@ -35,7 +35,7 @@ uncount_all-requires-clause-known c m i =
     let room = c.self.invariant.1 in
     let at : GateAt c.args.self.now.network c.args.n.0 c.take_gate-old.result = sym (entry-of c.self.inside.nodes.nodes c.self.inside.inputs.items c.self.inside.outputs.items c.args.self.now.network is c.args.n.0) ∙ gate-at (get I.nodes.nodes c.args.n.0) c.take_gate-old.result c.take_gate-old.ensures.old in
     let fanins : c.deref.result.now ≡ c.take_gate-old.result.fanins = c.deref.ensures.0 ∙ ap (λ (g : GateValue). g.fanins) c.old.view_is in
-    counts-known c.self.inside.nodes (vec_capacity c.self.inside.inputs) c.self.inside.inputs.items c.self.inside.outputs.items c.self.inside.counts.items c.self.inside.marks.items c.self.inside.queue.items c.args.self.now.network room is m (fanin-live c.args.self.now.network c.args.n.0 m c.take_gate-old.result stored at (subst (λ (ss : List Signal). In m (nodes_read ss)) fanins i))
+    counts-known c.self.inside.nodes (vec_capacity c.self.inside.inputs) c.self.inside.inputs.items c.self.inside.outputs.items c.self.inside.counts.items c.self.inside.marks.items (vec_capacity c.self.inside.queue) c.args.self.now.network room is m (fanin-live c.args.self.now.network c.args.n.0 m c.take_gate-old.result stored at (subst (λ (ss : List Signal). In m (nodes_read ss)) fanins i))
 
 pub uncount_all-requires-clause-counted : goal.uncount_all-requires-clause-counted
 uncount_all-requires-clause-counted c =
@@ -59,7 +59,7 @@ invariant_of-self c =
     let fanins : c.deref.result.now ≡ c.take_gate-old.result.fanins = c.deref.ensures.0 ∙ ap (λ (g : GateValue). g.fanins) c.old.view_is in
     let to = network-without I.nodes.nodes c.take_gate-old.new.self.nodes I.inputs.items I.outputs.items c.args.self.now.network is c.args.n.0 c.take_gate-old.ensures.nodes in (
       subst IsStored (sym to) (stored-remove c.args.self.now.network c.args.n.0 stored c.requires.gate c.requires.free),
-      room-kept I.nodes c.take_gate-old.new.self (vec_capacity I.inputs) I.inputs.items I.counts.items c.uncount_all.new.counts.items I.marks.items I.queue.items room c.take_gate-old.ensures.fitting c.take_gate-old.ensures.room c.uncount_all.ensures.len,
+      room-kept I.nodes c.take_gate-old.new.self (vec_capacity I.inputs) I.inputs.items I.counts.items c.uncount_all.new.counts.items I.marks.items (vec_capacity I.queue) room c.take_gate-old.ensures.fitting c.take_gate-old.ensures.room c.uncount_all.ensures.len,
       subst (AreReferences c.uncount_all.new.counts.items) (sym to) (kept-remove I.counts.items c.uncount_all.new.counts.items c.args.self.now.network refs c.args.n.0 c.take_gate-old.result c.deref.result.now fanins at c.uncount_all.ensures.less),
     )
 

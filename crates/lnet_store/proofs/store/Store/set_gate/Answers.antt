@@ -24,7 +24,7 @@ count_all-requires-clause-known c m i =
     let refs : AreReferences c.self.inside.counts.items c.args.self.now.network = subst (AreReferences c.self.inside.counts.items) is c.self.invariant.2 in
     let room = c.self.invariant.1 in
     let fanins : c.deref.result.now ≡ c.args.gate.fanins = c.deref.ensures.0 ∙ ap (λ (g : GateValue). g.fanins) c.gate.view_is in
-    counts-known c.self.inside.nodes (vec_capacity c.self.inside.inputs) c.self.inside.inputs.items c.self.inside.outputs.items c.self.inside.counts.items c.self.inside.marks.items c.self.inside.queue.items c.args.self.now.network room is m (c.requires.live m (subst (λ (ss : List Signal). In m (nodes_read ss)) fanins i))
+    counts-known c.self.inside.nodes (vec_capacity c.self.inside.inputs) c.self.inside.inputs.items c.self.inside.outputs.items c.self.inside.counts.items c.self.inside.marks.items (vec_capacity c.self.inside.queue) c.args.self.now.network room is m (c.requires.live m (subst (λ (ss : List Signal). In m (nodes_read ss)) fanins i))
 
 pub count_all-requires-clause-fits : goal.count_all-requires-clause-fits
 count_all-requires-clause-fits c =
@@ -55,7 +55,7 @@ uncount_all-requires-clause-known c m i =
     let room = c.self.invariant.1 in
     let at : GateAt c.args.self.now.network c.args.n.0 c.set_gate-old.result = sym (entry-of c.self.inside.nodes.nodes c.self.inside.inputs.items c.self.inside.outputs.items c.args.self.now.network is c.args.n.0) ∙ gate-at (get I.nodes.nodes c.args.n.0) c.set_gate-old.result c.set_gate-old.ensures.old in
     let olds : c.deref-2.result.now ≡ c.set_gate-old.result.fanins = c.deref-2.ensures.0 ∙ ap (λ (g : GateValue). g.fanins) c.old.view_is in
-    let lt = counts-known c.self.inside.nodes (vec_capacity c.self.inside.inputs) c.self.inside.inputs.items c.self.inside.outputs.items c.self.inside.counts.items c.self.inside.marks.items c.self.inside.queue.items c.args.self.now.network room is m (fanin-live c.args.self.now.network c.args.n.0 m c.set_gate-old.result stored at (subst (λ (ss : List Signal). In m (nodes_read ss)) olds i)) in
+    let lt = counts-known c.self.inside.nodes (vec_capacity c.self.inside.inputs) c.self.inside.inputs.items c.self.inside.outputs.items c.self.inside.counts.items c.self.inside.marks.items (vec_capacity c.self.inside.queue) c.args.self.now.network room is m (fanin-live c.args.self.now.network c.args.n.0 m c.set_gate-old.result stored at (subst (λ (ss : List Signal). In m (nodes_read ss)) olds i)) in
     let len = c.count_all.ensures.len in
     omega arith
 
@@ -84,7 +84,7 @@ invariant_of-self c =
     let olds : c.deref-2.result.now ≡ c.set_gate-old.result.fanins = c.deref-2.ensures.0 ∙ ap (λ (g : GateValue). g.fanins) c.old.view_is in
     let to = network-with I.nodes.nodes c.set_gate-old.new.self.nodes I.inputs.items I.outputs.items c.args.self.now.network is c.args.n.0 (IsGate c.args.gate) c.set_gate-old.ensures.nodes in (
       subst IsStored (sym to) (stored-set c.args.self.now.network c.args.n.0 c.args.gate stored c.requires.gate c.requires.live c.requires.arity c.requires.free),
-      room-kept I.nodes c.set_gate-old.new.self (vec_capacity I.inputs) I.inputs.items I.counts.items c.uncount_all.new.counts.items I.marks.items I.queue.items room c.set_gate-old.ensures.fitting c.set_gate-old.ensures.room (c.uncount_all.ensures.len ∙ c.count_all.ensures.len),
+      room-kept I.nodes c.set_gate-old.new.self (vec_capacity I.inputs) I.inputs.items I.counts.items c.uncount_all.new.counts.items I.marks.items (vec_capacity I.queue) room c.set_gate-old.ensures.fitting c.set_gate-old.ensures.room (c.uncount_all.ensures.len ∙ c.count_all.ensures.len),
       subst (AreReferences c.uncount_all.new.counts.items) (sym to) (kept-set I.counts.items c.count_all.new.counts.items c.uncount_all.new.counts.items c.args.self.now.network refs c.args.n.0 c.args.gate c.set_gate-old.result c.deref.result.now c.deref-2.result.now fanins olds at c.count_all.ensures.more c.uncount_all.ensures.less),
     )
 

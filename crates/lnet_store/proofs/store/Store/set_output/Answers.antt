@@ -40,7 +40,7 @@ count_all-requires-clause-known c m i =
     let stored : IsStored c.args.self.now.network = subst IsStored is c.self.invariant.0 in
     let refs : AreReferences c.self.inside.counts.items c.args.self.now.network = subst (AreReferences c.self.inside.counts.items) is c.self.invariant.2 in
     let room = c.self.invariant.1 in
-    elim i as (λ _. m < length c.self.inside.counts.items) [ inl e ↦ counts-known c.self.inside.nodes (vec_capacity c.self.inside.inputs) c.self.inside.inputs.items c.self.inside.outputs.items c.self.inside.counts.items c.self.inside.marks.items c.self.inside.queue.items c.args.self.now.network room is m (subst (IsLive c.args.self.now.network) (sym e) c.requires.live) | inr j ↦ absurd j ]
+    elim i as (λ _. m < length c.self.inside.counts.items) [ inl e ↦ counts-known c.self.inside.nodes (vec_capacity c.self.inside.inputs) c.self.inside.inputs.items c.self.inside.outputs.items c.self.inside.counts.items c.self.inside.marks.items (vec_capacity c.self.inside.queue) c.args.self.now.network room is m (subst (IsLive c.args.self.now.network) (sym e) c.requires.live) | inr j ↦ absurd j ]
 
 pub count_all-requires-clause-fits : goal.count_all-requires-clause-fits
 count_all-requires-clause-fits c =
@@ -62,7 +62,7 @@ uncount_all-requires-clause-known c m i =
     let place : c.args.k < length c.args.self.now.network.outputs = c.requires.place in
     let here : c.index-old.result.now ≡ get_or c.args.self.now.network.outputs c.args.k c.index-old.result.now = c.index-old.ensures ∙ ap (λ (os : List Signal). get_or os c.args.k c.index-old.result.now) outs in
     elim i as (λ _. m < length c.count_all.new.counts.items) [
-      | inl e ↦ (let lt = counts-known c.self.inside.nodes (vec_capacity c.self.inside.inputs) c.self.inside.inputs.items c.self.inside.outputs.items c.self.inside.counts.items c.self.inside.marks.items c.self.inside.queue.items c.args.self.now.network room is m (subst (IsLive c.args.self.now.network) (sym e) (stored.whole.outputs_live c.index-old.result.now.node.0 (read-place c.args.self.now.network.outputs c.args.k c.index-old.result.now place here))) in let len = c.count_all.ensures.len in omega arith)
+      | inl e ↦ (let lt = counts-known c.self.inside.nodes (vec_capacity c.self.inside.inputs) c.self.inside.inputs.items c.self.inside.outputs.items c.self.inside.counts.items c.self.inside.marks.items (vec_capacity c.self.inside.queue) c.args.self.now.network room is m (subst (IsLive c.args.self.now.network) (sym e) (stored.whole.outputs_live c.index-old.result.now.node.0 (read-place c.args.self.now.network.outputs c.args.k c.index-old.result.now place here))) in let len = c.count_all.ensures.len in omega arith)
       | inr j ↦ absurd j
     ]
 
@@ -92,7 +92,7 @@ invariant_of-self c =
     let here : c.index-old.result.now ≡ get_or c.args.self.now.network.outputs c.args.k c.index-old.result.now = c.index-old.ensures ∙ ap (λ (os : List Signal). get_or os c.args.k c.index-old.result.now) outs in
     let to = network-output I.nodes.nodes I.inputs.items I.outputs.items _ c.args.self.now.network is c.args.k c.args.s refl in (
       subst IsStored (sym to) (stored-output c.args.self.now.network c.args.k c.args.s stored c.requires.live),
-      room-kept I.nodes I.nodes (vec_capacity I.inputs) I.inputs.items I.counts.items c.uncount_all.new.counts.items I.marks.items I.queue.items room room.fitting refl (c.uncount_all.ensures.len ∙ c.count_all.ensures.len),
+      room-kept I.nodes I.nodes (vec_capacity I.inputs) I.inputs.items I.counts.items c.uncount_all.new.counts.items I.marks.items (vec_capacity I.queue) room room.fitting refl (c.uncount_all.ensures.len ∙ c.count_all.ensures.len),
       subst (AreReferences c.uncount_all.new.counts.items) (sym to) (kept-output I.counts.items c.count_all.new.counts.items c.uncount_all.new.counts.items c.args.self.now.network refs c.args.k c.args.s c.index-old.result.now place here c.count_all.ensures.more c.uncount_all.ensures.less),
     )
 

@@ -4,3 +4,4 @@ pub mod StoreLemmas
 pub mod CountLemmas
 pub mod ChangeLemmas
 pub mod KeptLemmas
+pub mod SearchLemmas

@@ -5,6 +5,7 @@ mod adding;
 mod changing;
 mod counting;
 mod look;
+mod reaching;
 mod slots;
 mod store;
 mod view;

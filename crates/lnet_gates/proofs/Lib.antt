@@ -7,3 +7,5 @@ pub mod TablingLemmas
 pub mod GateRows
 pub mod LutKeys
 pub mod LutOnly
+pub mod WordLemmas
+pub mod WiringLemmas

@@ -10,3 +10,4 @@ pub mod Natives
 pub mod Lawful
 pub mod LutForms
 pub mod Tabling
+pub mod Wiring

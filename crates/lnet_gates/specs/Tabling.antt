@@ -31,3 +31,8 @@ place_of s (t ∷ ts) = cond (ltb t.node.0 s.node.0) (suc (place_of s ts)) 0
 abbrev pub with_signal : Signal → List Signal → List Signal
 with_signal s [] = s ∷ []
 with_signal s (t ∷ ts) = cond (ltb t.node.0 s.node.0) (t ∷ with_signal s ts) (cond (eqb t.node.0 s.node.0) (t ∷ ts) (s ∷ t ∷ ts))
+
+-- the signals of other nodes than node 0
+abbrev pub named : List Signal → List Signal
+named [] = []
+named (s ∷ ss) = cond (eqb s.node.0 0) (named ss) (s ∷ named ss)

@@ -9,3 +9,4 @@ pub mod LutKeys
 pub mod LutOnly
 pub mod WordLemmas
 pub mod WiringLemmas
+pub mod FormLemmas

@@ -1,11 +1,11 @@
 -- Words of rows: one variable read from another, and the rows at which a table changes with a variable.
-use Rattle.std.proofs.Common.{◌≡◌, ℕ, ◌+◌, ◌^◌, ◌<◌, ◌≤◌, ◌↔◌, Bool, true, false, not, nat_eq, bit_and, bit_or, refl, sym, ap, subst, ◌∙◌, inl, inr, arith, ◌==◌}
+use Rattle.std.proofs.Common.{◌≡◌, ℕ, ◌+◌, ◌^◌, ◌<◌, ◌≤◌, ◌↔◌, Bool, true, false, not, nat_eq, bit_and, bit_or, refl, sym, ap, subst, ◌∙◌, inl, inr, arith, ◌==◌, nat_lt, pow_mono}
 use mathlib.Core.Bool.{◌&&◌, ◌||◌}
 use lib.Bits.{bit_xor}
 use Rattle.std.specs.Int.{bit_at, bit_not, w64}
 use Rattle.std.proofs.lemmas.Nat.{and_le_r}
 use Rattle.std.proofs.lemmas.Nat.Bits.{bit_at-zero, bit_at_above, bit_at_ones, same_from_bits}
-use Rattle.std.proofs.lemmas.Bool.{cases_lt, eq-eqb, eqb-true}
+use Rattle.std.proofs.lemmas.Bool.{cases_lt, eq-eqb, eqb-true, lt-ltb}
 use Rattle.lnet_tables.specs.Bits.{is_set, with_bit, bit_of, bit_xor2}
 use Rattle.lnet_tables.specs.Inverse.{bit_of_set}
 use Rattle.lnet_tables.proofs.Ops.{set_and, set_not, set_xor}
@@ -144,3 +144,14 @@ rows-same P rows i r not_here known = (
   λ h k below p. by_node k i (λ e. absurd (not_here (subst P e p))) (λ ne. known.0 h k (omega arith) p),
   λ all. known.1 (λ k below p. all k (omega arith) p),
 )
+
+-- ---- the first rows of a table
+
+and-true : (x : Bool) → (x && true) ≡ x
+and-true true = refl
+and-true false = refl
+
+pub first-kept : (x mask n r : ℕ) → n ≤ 6 → r < 2 ^ n → ((q : ℕ) → q < 64 → is_set mask q ≡ nat_lt q (2 ^ n)) → is_set (bit_and x mask) r ≡ is_set x r
+first-kept x mask n r few lt at_mask =
+    let most : 2 ^ n ≤ 2 ^ 6 = pow_mono {i = n} {j = 6} few in
+    set_and x mask r ∙ ap (λ b. is_set x r && b) (at_mask r (omega arith) ∙ lt-ltb r (2 ^ n) lt) ∙ and-true (is_set x r)

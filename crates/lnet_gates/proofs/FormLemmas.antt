@@ -16,7 +16,7 @@ use Rattle.lnet_gates.specs.Gates.{GateValue, KeyValue, flip, row_of, operate}
 use Rattle.lnet_gates.specs.Operands.{constant, flipped, read, IsNamedBy}
 use Rattle.lnet_gates.specs.NormalLaws.{keyed_gate, gate_reading}
 use Rattle.lnet_gates.specs.LutForms.{HasCount, IsLutGate, AscendsFrom, IsTableKey, grounded, put, changes_with, function_of, bound_of}
-use Rattle.lnet_gates.specs.Tabling.{op_table, named}
+use Rattle.lnet_gates.specs.Wiring.{op_table, named}
 use Rattle.lnet_gates.specs.Wiring.{signal_at, node_at, row_at, computes, ArePlain, AreDistinct, AreNeeded, IsReduced, AreOrdered, comes_before}
 use Rattle.lnet_gates.specs.Lawful.OperandLemmas.{by_test, untrue, flip-comm, flip-flip, eqb-same, eqb-self, eqb-apart, cond-true, cond-false}
 use Rattle.lnet_gates.specs.Lawful.NodeFunctions.{Ignores, by_node, flip-self, not-false, ignores}

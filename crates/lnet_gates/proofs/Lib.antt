@@ -3,10 +3,11 @@ pub mod RemadeMeans
 pub mod PlanLaws
 pub mod LaidInTurn
 pub mod Underway
-pub mod TablingLemmas
-pub mod GateRows
+pub mod Ascending
 pub mod LutKeys
 pub mod LutOnly
 pub mod WordLemmas
-pub mod WiringLemmas
+pub mod SameFunction
+pub mod NeededSignals
+pub mod SignalOrder
 pub mod FormLemmas

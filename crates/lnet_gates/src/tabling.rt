@@ -6,8 +6,7 @@ ghost use Rattle.lnet_gates.specs.Gates.{flip};
 ghost use Rattle.lnet_gates.specs.NormalLaws.{form_reading};
 ghost use Rattle.lnet_gates.specs.LutForms as luts;
 ghost use Rattle.lnet_gates.specs.LutForms.{IsLutGate, IsLutForm};
-ghost use Rattle.lnet_gates.specs.Wiring.{computes, IsReduced, AreOrdered};
-ghost use Rattle.lnet_gates.specs.Tabling.{named};
+ghost use Rattle.lnet_gates.specs.Wiring.{computes, IsReduced, AreOrdered, named};
 
 use crate::gate::{Gate, Op};
 use crate::normal::{Key, Normal};

@@ -1,5 +1,5 @@
 use Rattle.std.proofs.Common.{◌≡◌, take}
-use Rattle.lnet_gates.specs.Tabling.{named}
+use Rattle.lnet_gates.specs.Wiring.{named}
 use Rattle.lnet_gates.proofs.tabling.named.Given as goal
 
 abbrev pub invariant-loop-operand : goal.invariant-loop-operand

@@ -160,7 +160,7 @@ named-ascends (s ∷ ss) n plain distinct ordered from = by_test (AscendsFrom n)
       plain.plain 0,
       from 0 some,
       named-ascends ss (suc s.node.0) (rest-plain s ss plain) (rest-distinct s ss distinct) (rest-ordered s ss ordered)
-      (λ k other. before-later (node_at ss k) s.node.0 (ordered.ordered 0 (suc k) (omega arith)) other some (λ z. other (distinct.distinct 0 (suc k) (λ h. absurd (omega arith)) (sym z)))),
+          (λ k other. before-later (node_at ss k) s.node.0 (ordered.ordered 0 (suc k) (omega arith)) other some (λ z. other (distinct.distinct 0 (suc k) (λ h. absurd (omega arith)) (sym z)))),
     ))
 
 -- ---- their row
@@ -280,9 +280,9 @@ module _ (w : Wired) (reduced : IsReduced w) (ordered : AreOrdered w.operands) (
       two = two;
       operands = subst (AscendsFrom 1) (sym fanins_are) (named-ascends w.operands 1 plains reduced.distinct ordered (λ j some. positive (node_at w.operands j) some));
       needed = λ n named_by. not-false (changes_with (function_of own) (bound_of k.fanins) n) (λ none.
-      kept-nodes (λ m. Ignores (λ V. computes (grounded V) w) m → ⊥) w.operands needs.needed n (subst (IsNamedBy n) fanins_are named_by)
-      (λ V b. cancel p (computes (grounded (put V n b)) w) (computes (grounded V) w)
-      (sym (key-value (grounded (put V n b)) refl) ∙ ignores (function_of own) (bound_of k.fanins) n (reads-gate own) none V b ∙ key-value (grounded V) refl)));
+          kept-nodes (λ m. Ignores (λ V. computes (grounded V) w) m → ⊥) w.operands needs.needed n (subst (IsNamedBy n) fanins_are named_by)
+          (λ V b. cancel p (computes (grounded (put V n b)) w) (computes (grounded V) w)
+          (sym (key-value (grounded (put V n b)) refl) ∙ ignores (function_of own) (bound_of k.fanins) n (reads-gate own) none V b ∙ key-value (grounded V) refl)));
     }
       where
         positive : (m : ℕ) → m ≢ 0 → 1 ≤ m

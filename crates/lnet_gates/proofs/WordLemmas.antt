@@ -92,11 +92,11 @@ pub unchanged-rows : (t low high among i : ℕ) → among < 2 ^ 64
     → (not (nat_eq (bit_and (bit_xor low high) among) 0) ≡ false) ↔ ((r : ℕ) → r < 64 → is_set among r ≡ true → is_set t (with_bit r i false) ≡ is_set t (with_bit r i true))
 unchanged-rows t low high among i fits at_low at_high = (
   λ h r lt live.
-  let none : bit_and (bit_xor low high) among ≡ 0 = eqb-true (bit_and (bit_xor low high) among) 0 (is-not (nat_eq (bit_and (bit_xor low high) among) 0) h) in
-  sym (at_low r lt) ∙ both (is_set low r) (is_set high r) (is_set among r) (sym (at r) ∙ no-rows (bit_and (bit_xor low high) among) r none) live ∙ at_high r lt,
+      let none : bit_and (bit_xor low high) among ≡ 0 = eqb-true (bit_and (bit_xor low high) among) 0 (is-not (nat_eq (bit_and (bit_xor low high) among) 0) h) in
+      sym (at_low r lt) ∙ both (is_set low r) (is_set high r) (is_set among r) (sym (at r) ∙ no-rows (bit_and (bit_xor low high) among) r none) live ∙ at_high r lt,
   λ same.
-  ap not (eq-eqb (bit_and (bit_xor low high) among) 0 (all-clear (bit_and (bit_xor low high) among) (let le : bit_and (bit_xor low high) among ≤ among = and_le_r (bit_xor low high) among in omega arith)
-  (λ r lt. at r ∙ neither (is_set low r) (is_set high r) (is_set among r) (λ live. at_low r lt ∙ same r lt live ∙ sym (at_high r lt))))),
+      ap not (eq-eqb (bit_and (bit_xor low high) among) 0 (all-clear (bit_and (bit_xor low high) among) (let le : bit_and (bit_xor low high) among ≤ among = and_le_r (bit_xor low high) among in omega arith)
+      (λ r lt. at r ∙ neither (is_set low r) (is_set high r) (is_set among r) (λ live. at_low r lt ∙ same r lt live ∙ sym (at_high r lt))))),
 )
   where
     at : (r : ℕ) → is_set (bit_and (bit_xor low high) among) r ≡ (bit_xor2 (is_set low r) (is_set high r) && is_set among r)
@@ -129,8 +129,8 @@ pub rows-more : (P : ℕ → Type 0) (rows low i r : ℕ) → r < 64 → P i
     → (is_set (bit_and rows low) r ≡ true) ↔ ((k : ℕ) → k < i + 1 → P k → is_set r k ≡ false)
 rows-more P rows low i r lt here at_low known = (
   λ h k below p. by_node k i
-  (λ e. ap (is_set r) e ∙ and-right (is_set rows r) (is_set r i) (sym at ∙ h))
-  (λ ne. known.0 (and-left (is_set rows r) (not (is_set r i)) (sym at ∙ h)) k (omega arith) p),
+      (λ e. ap (is_set r) e ∙ and-right (is_set rows r) (is_set r i) (sym at ∙ h))
+      (λ ne. known.0 (and-left (is_set rows r) (not (is_set r i)) (sym at ∙ h)) k (omega arith) p),
   λ all. at ∙ and-both (is_set rows r) (is_set r i) (known.1 (λ k below p. all k (omega arith) p)) (all i (omega arith) here),
 )
   where

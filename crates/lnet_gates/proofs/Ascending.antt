@@ -1,5 +1,5 @@
 -- Ascending lists of numbers, and that the numbers that pass a test are one.
-use Rattle.std.proofs.Common.{◌≡◌, ℕ, zero, suc, ◌+◌, ◌<◌, Bool, true, false, cond, ◌⊎◌, List, [], ◌∷◌, ◌++◌, refl, sym, inl, inr, arith}
+use Rattle.std.proofs.Common.{◌≡◌, ℕ, zero, suc, ◌<◌, Bool, cond, ◌⊎◌, List, [], ◌∷◌, ◌++◌, refl, sym, inl, inr, arith}
 use Rattle.lnet_gates.specs.LutForms.{passing}
 use Rattle.lnet_gates.specs.Lawful.OperandLemmas.{by_test}
 use Rattle.lnet_gates.specs.Lawful.NodeFunctions.{IsIn, in-split}

@@ -1,5 +1,5 @@
 -- The forms of reduced tables in order: the signals that they keep, and their values.
-use Rattle.std.proofs.Common.{◌≡◌, ◌≢◌, ℕ, zero, suc, ◌+◌, ◌*◌, ◌^◌, ◌<◌, ◌≤◌, Bool, true, false, not, cond, ◌⊎◌, List, [], ◌∷◌, ◌++◌, take, map, length, get_or, eqb, nat_eq, bit_and, add-one, append-nil, length-take-le, pow_pos, refl, sym, ap, subst, ◌∙◌, inl, inr, arith, ◌==◌}
+use Rattle.std.proofs.Common.{◌≡◌, ◌≢◌, ℕ, zero, suc, ◌+◌, ◌*◌, ◌^◌, ◌<◌, ◌≤◌, Bool, true, false, not, cond, ◌⊎◌, List, [], ◌∷◌, ◌++◌, take, map, length, get_or, eqb, nat_eq, bit_and, add-one, append-nil, length-take-le, pow_pos, refl, sym, ap, subst, ◌∙◌, inl, inr, arith}
 use mathlib.Core.Bool.{beq}
 use Rattle.std.specs.Int.{bit_at}
 use Rattle.std.proofs.lemmas.List.{length-map, take_more}
@@ -18,8 +18,8 @@ use Rattle.lnet_gates.specs.NormalLaws.{keyed_gate, gate_reading}
 use Rattle.lnet_gates.specs.LutForms.{HasCount, IsLutGate, AscendsFrom, IsTableKey, grounded, put, changes_with, function_of, bound_of}
 use Rattle.lnet_gates.specs.Wiring.{op_table, named}
 use Rattle.lnet_gates.specs.Wiring.{signal_at, node_at, row_at, computes, ArePlain, AreDistinct, AreNeeded, IsReduced, AreOrdered, comes_before}
-use Rattle.lnet_gates.specs.Lawful.OperandLemmas.{by_test, untrue, flip-comm, flip-flip, eqb-same, eqb-self, eqb-apart, cond-true, cond-false}
-use Rattle.lnet_gates.specs.Lawful.NodeFunctions.{Ignores, by_node, flip-self, not-false, ignores}
+use Rattle.lnet_gates.specs.Lawful.OperandLemmas.{by_test, untrue, flip-comm, flip-flip, eqb-same, eqb-apart, cond-true, cond-false}
+use Rattle.lnet_gates.specs.Lawful.NodeFunctions.{Ignores, flip-self, not-false, ignores}
 use Rattle.lnet_gates.specs.Lawful.LutTables.{row-below, flip-twice}
 use Rattle.lnet_gates.specs.Lawful.LutLaws.{six, reads-gate}
 

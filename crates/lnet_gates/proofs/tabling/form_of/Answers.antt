@@ -1,11 +1,10 @@
-use Rattle.std.proofs.Common.{◌≡◌, ◌≤◌, ◌<◌, ◌^◌, ℕ, Bool, false, not, List, [], ◌∷◌, length, get_or, nat_eq, bit_and, refl, sym, ap, subst, ◌∙◌, rules}
+use Rattle.std.proofs.Common.{◌≡◌, ◌<◌, ◌^◌, ℕ, Bool, false, not, List, [], ◌∷◌, length, get_or, nat_eq, bit_and, refl, sym, ap, subst, ◌∙◌, rules}
 use mathlib.Core.Bool.{beq}
 use Rattle.std.proofs.lemmas.Bool.{eqb-true}
 use Rattle.lnet_tables.specs.Bits.{is_set}
 use Rattle.lnet_gates.specs.declared.signal.Signal.{Signal}
 use Rattle.lnet_gates.specs.Gates.{flip}
 use Rattle.lnet_gates.specs.Operands.{constant, flipped, read}
-use Rattle.lnet_gates.specs.Wiring.{named}
 use Rattle.lnet_gates.proofs.FormLemmas.{first-bit, none-value, one-value, key-value, key-proper, list-none, list-one, two-more}
 use Rattle.lnet_gates.proofs.tabling.form_of.Goals as goal
 

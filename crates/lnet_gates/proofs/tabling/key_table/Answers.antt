@@ -1,4 +1,4 @@
-use Rattle.std.proofs.Common.{◌≡◌, ◌≤◌, ◌<◌, ◌^◌, ℕ, ap, sym, ◌∙◌, arith, pow_mono}
+use Rattle.std.proofs.Common.{◌≡◌, ◌≤◌, ◌^◌, ap, sym, ◌∙◌, arith, pow_mono}
 use Rattle.lnet_tables.specs.Bits.{is_set}
 use Rattle.lnet_tables.proofs.Ops.{set_not}
 use Rattle.lnet_gates.specs.Gates.{flip}

@@ -1,4 +1,4 @@
-use Rattle.std.proofs.Common.{◌≡◌, ℕ, Bool, false, ap, sym, ◌∙◌}
+use Rattle.std.proofs.Common.{ap, sym, ◌∙◌}
 use Rattle.lnet_gates.specs.Gates.{GateValue, flip}
 use Rattle.lnet_gates.proofs.LutOnly.{only-form}
 use Rattle.lnet_gates.proofs.tabling.normal_lut.Goals as goal

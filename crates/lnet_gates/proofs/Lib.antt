@@ -10,4 +10,6 @@ pub mod WordLemmas
 pub mod SameFunction
 pub mod NeededSignals
 pub mod SignalOrder
+pub mod GateComputed
+pub mod NamedSignals
 pub mod FormLemmas

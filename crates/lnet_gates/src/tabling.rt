@@ -19,12 +19,14 @@ use arrayvec::ArrayVec;
 /// to six. The operands are the nodes that the gate's value changes with, plain and ascending; equal and constant fanins,
 /// and those without influence, go. Of no node the form is a constant, of one node that node or its complement. Of more
 /// nodes it is the key of their table; where row 0 of the table is true, the table is complemented, and the phase is true.
-/// The gate's phase is carried to the result. Constant time: a few operations on one word for each fanin.
+/// The gate's phase is carried to the result. Constant time: the fanins are compared in pairs, and each costs a few operations
+/// on one word.
 pub fn normal_lut(gate: &Gate) -> Normal
     requires { IsLutGate gate.now }
     ensures { result ≡ luts.normal_lut gate.now }
 {
-    form_of(ordered(needed(merged(plain(wired_gate(gate))))), gate.phase)
+    let wired = merged(plain(wired_gate(gate)));
+    form_of(ordered(needed(wired)), gate.phase)
 }
 
 /// The form of a reduced table in order, complemented where `phase` is true.

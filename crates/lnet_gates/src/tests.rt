@@ -1,6 +1,6 @@
 //! Each call on worked gates: every case of the normal forms, with signals given by their codes.
 
-ghost use Rattle.std.specs.Prelude.{◌≡◌, ◌≤◌, ◌<◌, ◌^◌, length};
+ghost use Rattle.std.specs.Prelude.{◌≡◌, ◌≤◌, length};
 
 use crate::{Gate, Node, Normal, Op, Signal, normal_and, normal_lut, normal_maj, normal_xor};
 use arrayvec::ArrayVec;

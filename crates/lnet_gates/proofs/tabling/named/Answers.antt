@@ -1,6 +1,6 @@
 use Rattle.std.proofs.Common.{◌≡◌, length, refl, arith, rules, false}
 use Rattle.lnet_gates.specs.Operands.{constant}
-use Rattle.lnet_gates.proofs.FormLemmas.{named-kept, named-left, named-room}
+use Rattle.lnet_gates.proofs.NamedSignals.{named-kept, named-left, named-room}
 use Rattle.lnet_gates.proofs.tabling.named.Goals as goal
 use Rattle.lnet_gates.proofs.tabling.named.Goals.{then-operand-ne0, else-operand-ne0}
 

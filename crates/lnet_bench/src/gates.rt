@@ -75,11 +75,29 @@ pub fn time_all<R: Print + Clock>(rt: &R, calls: u32) -> io::Result<()> {
     println!(rt; "gates of look-up tables")?;
     let start = Instant::now(rt)?;
     let sum = and_forms(calls);
-    report(rt, "  normal form, And of 2 fanins", calls, start.elapsed(rt)?, sum)?;
+    report(
+        rt,
+        "  normal form, And of 2 fanins",
+        calls,
+        start.elapsed(rt)?,
+        sum,
+    )?;
     let start = Instant::now(rt)?;
     let sum = table_forms(3, calls);
-    report(rt, "  normal form, table of 3 fanins", calls, start.elapsed(rt)?, sum)?;
+    report(
+        rt,
+        "  normal form, table of 3 fanins",
+        calls,
+        start.elapsed(rt)?,
+        sum,
+    )?;
     let start = Instant::now(rt)?;
     let sum = table_forms(6, calls);
-    report(rt, "  normal form, table of 6 fanins", calls, start.elapsed(rt)?, sum)
+    report(
+        rt,
+        "  normal form, table of 6 fanins",
+        calls,
+        start.elapsed(rt)?,
+        sum,
+    )
 }

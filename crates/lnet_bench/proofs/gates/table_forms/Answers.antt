@@ -1,4 +1,4 @@
-use Rattle.std.proofs.Common.{◌≡◌, ◌≤◌, List, length, ap, sym, subst, lit<}
+use Rattle.std.proofs.Common.{◌≤◌, List, length, ap, sym, subst, lit<}
 use Rattle.std.proofs.lemmas.Nat.{xor_lt}
 use Rattle.lnet_gates.specs.Gates.{GateValue}
 use Rattle.lnet_gates.specs.declared.signal.Signal.{Signal}

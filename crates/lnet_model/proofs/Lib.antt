@@ -3,3 +3,10 @@ pub mod Along
 pub mod Walks
 pub mod Over
 pub mod Values
+pub mod Changes
+pub mod Slots
+pub mod Fan
+pub mod Levels
+pub mod WorkedRows
+pub mod Removals
+pub mod Settings

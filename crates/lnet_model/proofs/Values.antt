@@ -1,15 +1,15 @@
 -- Values and levels, by the laws of `over`.
-use Rattle.std.proofs.Common.{◌≡◌, ℕ, zero, suc, ◌+◌, ◌-◌, ◌≤◌, Bool, false, List, [], ◌∷◌, map, Some, refl, sym, ap, ◌∙◌, arith}
+use Rattle.std.proofs.Common.{◌≡◌, ℕ, zero, suc, ◌+◌, ◌-◌, ◌≤◌, Bool, false, List, [], ◌∷◌, map, Some, refl, ap, ◌∙◌, arith}
 use Rattle.lnet_gates.specs.declared.signal.Signal.{Signal}
 use Rattle.lnet_gates.specs.Gates.{GateValue}
 use Rattle.lnet_gates.specs.Gates.{flip}
 use Rattle.lnet_gates.specs.Gates.{apply}
-use Rattle.lnet_model.specs.Networks.{IsGate, Entry, NetworkValue, entry_at, live_count, fanins_of}
+use Rattle.lnet_model.specs.Networks.{IsGate, NetworkValue, entry_at, live_count, fanins_of}
 use Rattle.lnet_model.specs.Along.{at_entry, once, along, over, Acyclic}
-use Rattle.lnet_model.specs.Values.{value_step, node_value, signal_value, network_outputs}
+use Rattle.lnet_model.specs.Values.{value_step, node_value, signal_value}
 use Rattle.lnet_model.proofs.Along.{Step, along-deeper}
 use Rattle.lnet_model.proofs.Walks.{short_walks}
-use Rattle.lnet_model.proofs.Over.{over-once, over-kept}
+use Rattle.lnet_model.proofs.Over.{over-once}
 
 -- reading the pairs of a step is reading V at the fanins
 pub map-pairs : {A B : Type 0} (V : ℕ → A) (f : Signal × A → B) (ss : List Signal) → map f (map {B = Signal × A} (λ s. (s, V s.node.0)) ss) ≡ map (λ s. f (s, V s.node.0)) ss

@@ -47,9 +47,13 @@ abbrev pub end_of : ℕ → List ℕ → ℕ
 end_of n [] = n
 end_of n (m ∷ ns) = end_of m ns
 
+-- a walk from n ends at o
+abbrev pub Reaches : NetworkValue → ℕ → ℕ → Type 0
+Reaches N n o = (ns : List ℕ) × IsWalk (entry_at N) n ns × (end_of n ns ≡ o)
+
 -- a walk from the node of s ends at o
 abbrev pub Depends : NetworkValue → Signal → ℕ → Type 0
-Depends N s o = (ns : List ℕ) × IsWalk (entry_at N) s.node.0 ns × (end_of s.node.0 ns ≡ o)
+Depends N s o = Reaches N s.node.0 o
 
 -- no walk of two or more nodes ends at its first node
 abbrev pub NoCycle : Lookup → Type 0

@@ -2,3 +2,12 @@ pub mod Networks
 pub mod Code
 pub mod Along
 pub mod Values
+pub mod Levels
+pub mod Fanouts
+pub mod Changes
+pub mod Cuts
+pub mod Answers
+pub mod Visits
+pub mod Dags
+pub mod Slots
+pub mod Worked

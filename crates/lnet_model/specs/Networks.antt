@@ -1,6 +1,6 @@
 -- Networks as values: what every clause of the workspace speaks of.
 -- Source: the terms of the mockturtle documentation (node, signal, fanin, primary input and output).
-use Rattle.std.specs.Prelude.{ℕ, Bool, true, false, List, [], IsSome, Option, count_by}
+use Rattle.std.specs.Prelude.{ℕ, Bool, true, false, List, [], IsSome, Option, None, Some, count_by}
 use Rattle.std.specs.Ordering.{nat_cmp}
 use Rattle.std.specs.FinMap.{FinMap, get, len, values}
 use Rattle.lnet_gates.specs.declared.signal.Signal.{Signal}
@@ -50,3 +50,14 @@ is_gate (IsGate g) = true
 -- how many gates there are
 unfoldable pub gate_count : NetworkValue → ℕ
 gate_count N = count_by is_gate (values N.nodes)
+
+-- the gate of an entry
+abbrev pub gate_in : Option Entry → Option GateValue
+gate_in None = None
+gate_in (Some Constant) = None
+gate_in (Some (Input k)) = None
+gate_in (Some (IsGate g)) = Some g
+
+-- the gate at a number
+abbrev pub gate_at : NetworkValue → ℕ → Option GateValue
+gate_at N n = gate_in (entry_at N n)

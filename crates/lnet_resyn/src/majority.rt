@@ -1,0 +1,208 @@
+//! Majority resynthesis.
+
+ghost use Rattle.std.specs.Prelude.{◌≡◌, ◌≤◌, ◌<◌, ◌+◌, ◌*◌, ◌-◌, ◌^◌, ◌%◌, ◌/◌, ℕ, Bool, length, map, IfSome, None, Some, option_map, cond, max, ltb, slice_index_or};
+ghost use Rattle.std.specs.List.{range_with_len, flat_map};
+ghost use Rattle.lnet_tables.specs.Bits.{Rows, row, is_set, bit_of, bit_xor2, by_rows};
+ghost use Rattle.lnet_tables.specs.Recipes.{RecipeValue, apply, sim};
+ghost use Rattle.lnet_tables.specs.declared.step.StepOp.TheVariants.{Maj};
+ghost use Rattle.lnet_tables.specs.Shannon.{Laid};
+ghost use Rattle.lnet_resyn.specs.Majority.{word_rows, words_rows, agreements as agreements_of, first_pool, candidate_rows, score, IsScored, by_complements, by_third, by_second, candidates, best_of, best_candidate as best_of_all, first_candidate, reach as reach_of, pool_reach, lit_at, step_of, turns, literal_rows, literal_among, literal_of, by_turns, majority_of};
+ghost use Rattle.lnet_resyn.specs.declared.proposal.Proposal.TheVariants.{Use};
+
+use crate::proposal::Proposal;
+use arrayvec::ArrayVec;
+use lnet_tables::{Lit, Recipe, Step, StepOp, Table, shannon};
+
+/// A majority of three columns of the pool, each plain or complemented.
+#[derive(Clone, Copy)]
+struct Candidate {
+    /// The place of the first column.
+    first: u8,
+    /// The place of the second column, above the first.
+    second: u8,
+    /// The place of the third column, above the second.
+    third: u8,
+    /// Bits 0, 1 and 2 complement the first, the second and the third column.
+    complements: u8,
+}
+
+/// A candidate, and in how many rows it agrees with the target.
+#[derive(Clone, Copy)]
+struct Scored {
+    candidate: Candidate,
+    agreements: u32,
+}
+
+/// In how many rows a function of `vars` variables agrees with the target.
+fn agreements(vars: u8, target: u64, word: u64) -> u32
+    requires few { vars ≤ 4 }
+    ensures value { result ≡ agreements_of (word_rows vars target) (word_rows vars word) }
+    ensures few { result ≤ 2 ^ vars }
+{
+    (!(target ^ word) & row_mask(vars)).count_ones()
+}
+
+/// The rows of a function of up to four variables, as the bits of a number.
+fn row_mask(vars: u8) -> u64
+    requires { vars ≤ 4 }
+    ensures { result ≡ 2 ^ 2 ^ vars - 1 }
+{
+    match vars {
+        0 => 0x1,
+        1 => 0x3,
+        2 => 0xf,
+        3 => 0xff,
+        _ => 0xffff,
+    }
+}
+
+/// The column at a place, complemented where the flag is set.
+fn operand(pool: &[u64], place: u8, complement: bool) -> u64
+    requires { place < length pool.now }
+    ensures { (n r : ℕ) → n ≤ 4 → r < 2 ^ n → is_set result r ≡ bit_xor2 complement (row (word_rows n (slice_index_or pool.now place 0)) r) }
+{
+    let word = pool[place as usize];
+    if complement { !word } else { word }
+}
+
+/// The majority of three functions.
+fn majority(a: u64, b: u64, c: u64) -> u64
+    ensures { (r : ℕ) → is_set result r ≡ apply Maj (is_set a r) (is_set b r) (is_set c r) }
+{
+    (a & b) ^ (c & (a ^ b))
+}
+
+/// The function of a candidate.
+fn candidate_word(pool: &[u64], x: Candidate) -> u64
+    requires first { x.first < length pool.now }
+    requires second { x.second < length pool.now }
+    requires third { x.third < length pool.now }
+    ensures { (n : ℕ) → n ≤ 4 → word_rows n result ≡ candidate_rows n (words_rows n pool.now) x }
+{
+    let a = operand(pool, x.first, has_bit(x.complements, 0));
+    let b = operand(pool, x.second, has_bit(x.complements, 1));
+    let c = operand(pool, x.third, has_bit(x.complements, 2));
+    majority(a, b, c)
+}
+
+/// Whether bit `i` of a number is set.
+fn has_bit(number: u8, i: u8) -> bool
+    requires { i < 8 }
+    ensures { result ≡ is_set number i }
+{
+    (number >> i) & 1 == 1
+}
+
+/// The better of a scored candidate and one that is looked at after it: the later one only where it agrees in more rows.
+fn better(vars: u8, target: u64, pool: &[u64], best: Scored, x: Candidate) -> Scored
+    requires few { vars ≤ 4 }
+    requires first { x.first < length pool.now }
+    requires second { x.second < length pool.now }
+    requires third { x.third < length pool.now }
+    requires best { IsScored (word_rows vars target) (words_rows vars pool.now) best }
+    ensures candidate { result.candidate ≡ cond (ltb (score (word_rows vars target) (words_rows vars pool.now) best.candidate) (score (word_rows vars target) (words_rows vars pool.now) x)) x best.candidate }
+    ensures scored { IsScored (word_rows vars target) (words_rows vars pool.now) result }
+{
+    let agreements = agreements(vars, target, candidate_word(pool, x));
+    if best.agreements < agreements {
+        Scored {
+            candidate: x,
+            agreements,
+        }
+    } else {
+        best
+    }
+}
+
+/// The best of a scored candidate and those of three columns.
+fn best_by_complements(
+    vars: u8,
+    target: u64,
+    pool: &[u64],
+    best: Scored,
+    first: u8,
+    second: u8,
+    third: u8,
+) -> Scored
+    requires few { vars ≤ 4 }
+    requires first { first < length pool.now }
+    requires second { second < length pool.now }
+    requires third { third < length pool.now }
+    requires best { IsScored (word_rows vars target) (words_rows vars pool.now) best }
+    ensures candidate { result.candidate ≡ best_of (score (word_rows vars target) (words_rows vars pool.now)) best.candidate (by_complements first second third) }
+    ensures scored { IsScored (word_rows vars target) (words_rows vars pool.now) result }
+{
+    let mut best = best;
+    for complements in 0..8u8 {
+        best = better(
+            vars,
+            target,
+            pool,
+            best,
+            Candidate {
+                first,
+                second,
+                third,
+                complements,
+            },
+        );
+    }
+    best
+}
+
+/// The best of a scored candidate and those of two columns and each later one.
+fn best_by_third(vars: u8, target: u64, pool: &[u64], best: Scored, first: u8, second: u8) -> Scored
+    requires few { vars ≤ 4 }
+    requires small { length pool.now ≤ 13 }
+    requires first { first < length pool.now }
+    requires second { second < length pool.now }
+    requires best { IsScored (word_rows vars target) (words_rows vars pool.now) best }
+    ensures candidate { result.candidate ≡ best_of (score (word_rows vars target) (words_rows vars pool.now)) best.candidate (by_third (length pool.now) first second) }
+    ensures scored { IsScored (word_rows vars target) (words_rows vars pool.now) result }
+{
+    let mut best = best;
+    for third in second + 1..pool.len() as u8 {
+        best = best_by_complements(vars, target, pool, best, first, second, third);
+    }
+    best
+}
+
+/// The best of a scored candidate and those of one column and each two later ones.
+fn best_by_second(vars: u8, target: u64, pool: &[u64], best: Scored, first: u8) -> Scored
+    requires few { vars ≤ 4 }
+    requires small { length pool.now ≤ 13 }
+    requires first { first < length pool.now }
+    requires best { IsScored (word_rows vars target) (words_rows vars pool.now) best }
+    ensures candidate { result.candidate ≡ best_of (score (word_rows vars target) (words_rows vars pool.now)) best.candidate (by_second (length pool.now) first) }
+    ensures scored { IsScored (word_rows vars target) (words_rows vars pool.now) result }
+{
+    let mut best = best;
+    for second in first + 1..pool.len() as u8 {
+        best = best_by_third(vars, target, pool, best, first, second);
+    }
+    best
+}
+
+/// The candidate that agrees with the target in most rows, the first of those that do.
+fn best_candidate(vars: u8, target: u64, pool: &[u64]) -> Scored
+    requires few { vars ≤ 4 }
+    requires small { length pool.now ≤ 13 }
+    requires three { 3 ≤ length pool.now }
+    ensures candidate { result.candidate ≡ best_of_all (word_rows vars target) (words_rows vars pool.now) }
+    ensures scored { IsScored (word_rows vars target) (words_rows vars pool.now) result }
+{
+    let candidate = Candidate {
+        first: 0,
+        second: 1,
+        third: 2,
+        complements: 0,
+    };
+    let mut best = Scored {
+        candidate,
+        agreements: agreements(vars, target, candidate_word(pool, candidate)),
+    };
+    for first in 0..pool.len() as u8 {
+        best = best_by_second(vars, target, pool, best, first);
+    }
+    best
+}

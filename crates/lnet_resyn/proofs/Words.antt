@@ -1,16 +1,16 @@
 -- Functions of up to four variables as words.
-use Rattle.std.proofs.Common.{◌≡◌, ℕ, zero, suc, ◌+◌, ◌-◌, ◌*◌, ◌^◌, ◌<◌, ◌≤◌, ◌/◌, ◌%◌, Bool, true, false, not, ◌&&◌, refl, sym, ap, ◌∙◌, arith, w64, bit_and, ◌==◌, pow_mono, List, map, length, get_or}
+use Rattle.std.proofs.Common.{◌≡◌, ℕ, zero, suc, ◌+◌, ◌-◌, ◌*◌, ◌^◌, ◌<◌, ◌≤◌, ◌/◌, ◌%◌, Bool, true, false, not, ◌&&◌, refl, sym, ap, ◌∙◌, arith, w64, bit_and, ◌==◌, pow_mono, List, length, get_or}
 use Rattle.std.proofs.lemmas.List.{get_or-map}
-use Rattle.std.specs.Prelude.{count_ones, bit_xor, cond}
+use Rattle.std.specs.Prelude.{count_ones, bit_xor}
 use Rattle.std.specs.Int.{bit_not}
 use Rattle.lnet_tables.proofs.WordBits.{mod_bit}
 use lib.Count.{ones_step, ones-le}
 use Rattle.std.proofs.lemmas.Nat.{pow_pos, and_mask}
-use Rattle.lnet_tables.specs.Bits.{Rows, row, by_rows, is_set, number_by, bit_xor2, bit_of, constant_rows}
+use Rattle.lnet_tables.specs.Bits.{Rows, row, is_set, number_by, bit_xor2, bit_of, constant_rows, not_rows}
 use Rattle.lnet_tables.specs.Recipes.{apply}
 use Rattle.lnet_tables.specs.declared.step.StepOp.TheVariants.{Maj}
 use Rattle.lnet_tables.specs.Inverse.{row_inside}
-use Rattle.lnet_tables.proofs.Ops.{set_and, set_xor, set_not}
+use Rattle.lnet_tables.proofs.Ops.{same_rows, set_and, set_xor, set_not}
 use Rattle.lnet_npn.proofs.Images.{told_by_bits}
 use Rattle.lnet_resyn.specs.Majority.{count_rows, word_rows, words_rows, column, agreements}
 
@@ -98,3 +98,7 @@ operand-other n w r few small h =
 -- the column at a place of a pool of words
 pub column-word : (n : ℕ) (ws : List ℕ) (i : ℕ) → i < length ws → column n (words_rows n ws) i ≡ word_rows n (get_or ws i 0)
 column-word n ws i h = get_or-map (word_rows n) ws i 0 (constant_rows n false) h
+
+-- the complement of a word is the complement of its function
+pub other-word : (n w : ℕ) → n ≤ 4 → w < 2 ^ 64 → word_rows n (bit_not w64 w) ≡ not_rows (word_rows n w)
+other-word n w few small = same_rows n _ _ (λ r h. operand-other n w r few small h)

@@ -2,11 +2,11 @@
 -- function in most rows. In outline after S. B. Akers, "Synthesis of Combinational Logic Using Three-Input Majority Gates",
 -- Annual Symposium on Switching Circuit Theory and Logical Design 3 (1962); the order, the turns and the fall-back are this
 -- project's own.
-use Rattle.std.specs.Prelude.{◌≡◌, ℕ, zero, suc, ◌+◌, ◌-◌, ◌*◌, ◌^◌, ◌/◌, ◌%◌, Bool, true, false, cond, List, [], ◌∷◌, ◌++◌, map, length, max, eqb, leb, ltb, Option, None, Some, not, ◌==◌}
+use Rattle.std.specs.Prelude.{◌≡◌, ◌<◌, ℕ, zero, suc, ◌+◌, ◌-◌, ◌*◌, ◌^◌, ◌/◌, ◌%◌, Bool, false, cond, List, [], ◌∷◌, ◌++◌, map, length, max, leb, ltb, Option, None, Some, not, MatchOption, ◌==◌}
 use Rattle.std.specs.List.{range_with_len, flat_map}
 use lib.ListN.{get_or}
 use Rattle.lnet_tables.specs.Bits.{Rows, row, by_rows, is_set, bit_of, bit_xor2, constant_rows, variable_rows, not_rows, equal_rows}
-use Rattle.lnet_tables.specs.Recipes.{RecipeValue, apply}
+use Rattle.lnet_tables.specs.Recipes.{RecipeValue, apply, place, next_place}
 use Rattle.lnet_tables.specs.declared.step.Lit.{Lit}
 use Rattle.lnet_tables.specs.declared.step.Step.{Step}
 use Rattle.lnet_tables.specs.declared.step.StepOp.TheVariants.{Maj}
@@ -50,6 +50,12 @@ candidate_rows n pool x = by_rows n (λ r. apply Maj (operand n pool x.first (is
 -- in how many rows a candidate agrees with f
 abbrev pub score : Rows → List Rows → Candidate → ℕ
 score f pool x = agreements f (candidate_rows f.vars pool x)
+
+-- a candidate of three of so many columns
+pub record IsInside (size : ℕ) (x : Candidate) : Type 0 where
+  pub first : x.first < size
+  pub second : x.second < size
+  pub third : x.third < size
 
 -- a candidate with its score
 abbrev pub IsScored : Rows → List Rows → Scored → Type 0
@@ -98,23 +104,32 @@ lit_at i complement = record { 0 = 2 * i + bit_of complement }
 abbrev pub step_of : Candidate → Step
 step_of x = record { op = Maj; a = lit_at x.first (is_set x.complements 0); b = lit_at x.second (is_set x.complements 1); c = lit_at x.third (is_set x.complements 2) }
 
--- the steps of up to so many turns: none where a turn gains no row
+-- a step, and then those of the turns that follow
+abbrev pub with_step : Step → Option Laid → Option Laid
+with_step s None = None
+with_step s (Some l) = Some (record { steps = s ∷ l.steps; root = l.root })
+
+-- the turn of a candidate with so many agreements of so many rows: none where it agrees in no more rows than a column does;
+-- its step, and the end where it agrees in all; and else its step and what follows
+abbrev pub turn_of : ℕ → ℕ → ℕ → Candidate → ℕ → Option Laid → Option Laid
+turn_of agreements reached rows x place later = cond (leb agreements reached) None (cond (agreements == rows) (Some (record { steps = step_of x ∷ []; root = plain place })) (with_step (step_of x) later))
+
+-- the steps of up to so many turns: none where they don't end
 unfoldable pub turns : ℕ → Rows → List Rows → Option Laid
 turns zero f pool = None
 turns (suc k) f pool =
     let x : Candidate = best_candidate f pool in
-    cond (leb (score f pool x) (pool_reach f pool)) None
-    (cond (score f pool x == 2 ^ f.vars) (Some (record { steps = step_of x ∷ []; root = plain (length pool) }))
-    (with_step (step_of x) (turns k f (pool ++ candidate_rows f.vars pool x ∷ []))))
-  where
-    with_step : Step → Option Laid → Option Laid
-    with_step s None = None
-    with_step s (Some l) = Some (record { steps = s ∷ l.steps; root = l.root })
+    turn_of (score f pool x) (pool_reach f pool) (2 ^ f.vars) x (length pool) (turns k f (pool ++ candidate_rows f.vars pool x ∷ []))
 
--- the first of the literals of a list whose function is f
+-- what the turns do to a recipe: their steps are added, and the answer is their root; none where they don't end
+abbrev pub HasTurned : RecipeValue → RecipeValue → Option Lit → Option Laid → Type 0
+HasTurned old new answer o = MatchOption o (answer ≡ None) (λ l. (answer ≡ Some l.root) × (new ≡ record old { steps = old.steps ++ l.steps }) × (place l.root < next_place new))
+
+-- the function of a literal over a pool
 abbrev pub literal_rows : ℕ → List Rows → ℕ → Rows
 literal_rows n pool l = cond (l % 2 == 1) (not_rows (column n pool (l / 2))) (column n pool (l / 2))
 
+-- the first of the literals of a list whose function is f
 unfoldable pub literal_among : Rows → List Rows → List ℕ → Option Lit
 literal_among f pool [] = None
 literal_among f pool (l ∷ ls) = cond (equal_rows (literal_rows f.vars pool l) f) (Some (record { 0 = l })) (literal_among f pool ls)

@@ -1,12 +1,12 @@
 //! Majority resynthesis.
 
-ghost use Rattle.std.specs.Prelude.{◌≡◌, ◌≤◌, ◌<◌, ◌+◌, ◌*◌, ◌-◌, ◌^◌, ◌%◌, ◌/◌, ℕ, Bool, length, map, IfSome, None, Some, option_map, cond, max, ltb, slice_index_or};
+ghost use Rattle.std.specs.Prelude.{◌≡◌, ◌≤◌, ◌<◌, ◌+◌, ◌*◌, ◌-◌, ◌^◌, ◌%◌, ◌/◌, ◌++◌, ℕ, Bool, length, map, MatchOption, IfSome, None, Some, option_map, cond, max, ltb, slice_index_or};
 ghost use Rattle.std.specs.List.{range_with_len, flat_map};
 ghost use Rattle.lnet_tables.specs.Bits.{Rows, row, is_set, bit_of, bit_xor2, by_rows};
-ghost use Rattle.lnet_tables.specs.Recipes.{RecipeValue, apply, sim};
+ghost use Rattle.lnet_tables.specs.Recipes.{RecipeValue, apply, place, next_place, sim};
 ghost use Rattle.lnet_tables.specs.declared.step.StepOp.TheVariants.{Maj};
 ghost use Rattle.lnet_tables.specs.Shannon.{Laid};
-ghost use Rattle.lnet_resyn.specs.Majority.{word_rows, words_rows, agreements as agreements_of, first_pool, candidate_rows, score, IsScored, by_complements, by_third, by_second, candidates, best_of, best_candidate as best_of_all, first_candidate, reach as reach_of, pool_reach, lit_at, step_of, turns, literal_rows, literal_among, literal_of, by_turns, majority_of};
+ghost use Rattle.lnet_resyn.specs.Majority.{word_rows, words_rows, agreements as agreements_of, first_pool, candidate_rows, score, IsInside, IsScored, by_complements, by_third, by_second, candidates, best_of, best_candidate as best_of_all, first_candidate, reach as reach_of, pool_reach, lit_at as literal_at, step_of as candidate_step, turns as turns_of, HasTurned, literal_rows, literal_among, literal_of, by_turns, majority_of};
 ghost use Rattle.lnet_resyn.specs.declared.proposal.Proposal.TheVariants.{Use};
 
 use crate::proposal::Proposal;
@@ -42,6 +42,20 @@ fn agreements(vars: u8, target: u64, word: u64) -> u32
     (!(target ^ word) & row_mask(vars)).count_ones()
 }
 
+/// How many rows a function of up to four variables has.
+fn row_count(vars: u8) -> u32
+    requires { vars ≤ 4 }
+    ensures { result ≡ 2 ^ vars }
+{
+    match vars {
+        0 => 1,
+        1 => 2,
+        2 => 4,
+        3 => 8,
+        _ => 16,
+    }
+}
+
 /// The rows of a function of up to four variables, as the bits of a number.
 fn row_mask(vars: u8) -> u64
     requires { vars ≤ 4 }
@@ -74,9 +88,7 @@ fn majority(a: u64, b: u64, c: u64) -> u64
 
 /// The function of a candidate.
 fn candidate_word(pool: &[u64], x: Candidate) -> u64
-    requires first { x.first < length pool.now }
-    requires second { x.second < length pool.now }
-    requires third { x.third < length pool.now }
+    requires { IsInside (length pool.now) x }
     ensures { (n : ℕ) → n ≤ 4 → word_rows n result ≡ candidate_rows n (words_rows n pool.now) x }
 {
     let a = operand(pool, x.first, has_bit(x.complements, 0));
@@ -96,11 +108,11 @@ fn has_bit(number: u8, i: u8) -> bool
 /// The better of a scored candidate and one that is looked at after it: the later one only where it agrees in more rows.
 fn better(vars: u8, target: u64, pool: &[u64], best: Scored, x: Candidate) -> Scored
     requires few { vars ≤ 4 }
-    requires first { x.first < length pool.now }
-    requires second { x.second < length pool.now }
-    requires third { x.third < length pool.now }
+    requires inside { IsInside (length pool.now) x }
+    requires best_inside { IsInside (length pool.now) best.candidate }
     requires best { IsScored (word_rows vars target) (words_rows vars pool.now) best }
     ensures candidate { result.candidate ≡ cond (ltb (score (word_rows vars target) (words_rows vars pool.now) best.candidate) (score (word_rows vars target) (words_rows vars pool.now) x)) x best.candidate }
+    ensures inside { IsInside (length pool.now) result.candidate }
     ensures scored { IsScored (word_rows vars target) (words_rows vars pool.now) result }
 {
     let agreements = agreements(vars, target, candidate_word(pool, x));
@@ -128,8 +140,10 @@ fn best_by_complements(
     requires first { first < length pool.now }
     requires second { second < length pool.now }
     requires third { third < length pool.now }
+    requires best_inside { IsInside (length pool.now) best.candidate }
     requires best { IsScored (word_rows vars target) (words_rows vars pool.now) best }
     ensures candidate { result.candidate ≡ best_of (score (word_rows vars target) (words_rows vars pool.now)) best.candidate (by_complements first second third) }
+    ensures inside { IsInside (length pool.now) result.candidate }
     ensures scored { IsScored (word_rows vars target) (words_rows vars pool.now) result }
 {
     let mut best = best;
@@ -156,8 +170,10 @@ fn best_by_third(vars: u8, target: u64, pool: &[u64], best: Scored, first: u8, s
     requires small { length pool.now ≤ 13 }
     requires first { first < length pool.now }
     requires second { second < length pool.now }
+    requires best_inside { IsInside (length pool.now) best.candidate }
     requires best { IsScored (word_rows vars target) (words_rows vars pool.now) best }
     ensures candidate { result.candidate ≡ best_of (score (word_rows vars target) (words_rows vars pool.now)) best.candidate (by_third (length pool.now) first second) }
+    ensures inside { IsInside (length pool.now) result.candidate }
     ensures scored { IsScored (word_rows vars target) (words_rows vars pool.now) result }
 {
     let mut best = best;
@@ -172,8 +188,10 @@ fn best_by_second(vars: u8, target: u64, pool: &[u64], best: Scored, first: u8) 
     requires few { vars ≤ 4 }
     requires small { length pool.now ≤ 13 }
     requires first { first < length pool.now }
+    requires best_inside { IsInside (length pool.now) best.candidate }
     requires best { IsScored (word_rows vars target) (words_rows vars pool.now) best }
     ensures candidate { result.candidate ≡ best_of (score (word_rows vars target) (words_rows vars pool.now)) best.candidate (by_second (length pool.now) first) }
+    ensures inside { IsInside (length pool.now) result.candidate }
     ensures scored { IsScored (word_rows vars target) (words_rows vars pool.now) result }
 {
     let mut best = best;
@@ -189,6 +207,7 @@ fn best_candidate(vars: u8, target: u64, pool: &[u64]) -> Scored
     requires small { length pool.now ≤ 13 }
     requires three { 3 ≤ length pool.now }
     ensures candidate { result.candidate ≡ best_of_all (word_rows vars target) (words_rows vars pool.now) }
+    ensures inside { IsInside (length pool.now) result.candidate }
     ensures scored { IsScored (word_rows vars target) (words_rows vars pool.now) result }
 {
     let candidate = Candidate {
@@ -205,4 +224,76 @@ fn best_candidate(vars: u8, target: u64, pool: &[u64]) -> Scored
         best = best_by_second(vars, target, pool, best, first);
     }
     best
+}
+
+/// In how many rows a column, plain or complemented, agrees with the target, whichever is more.
+fn reach(vars: u8, target: u64, word: u64) -> u32
+    requires few { vars ≤ 4 }
+    ensures { result ≡ reach_of (word_rows vars target) (word_rows vars word) }
+{
+    agreements(vars, target, word).max(agreements(vars, target, !word))
+}
+
+/// The greatest reach of the columns.
+#[tactic(auto, unfolding(crate::specs::Majority::pool_reach))]
+fn greatest_reach(vars: u8, target: u64, pool: &[u64]) -> u32
+    requires few { vars ≤ 4 }
+    ensures { result ≡ pool_reach (word_rows vars target) (words_rows vars pool.now) }
+{
+    match pool {
+        [] => 0,
+        [first, rest @ ..] => reach(vars, target, *first).max(greatest_reach(vars, target, rest)),
+    }
+}
+
+/// The literal of the column at a place of the pool.
+fn lit_at(place: u8, complement: bool) -> Lit
+    ensures { result ≡ literal_at place complement }
+{
+    Lit(2 * place as u16 + u16::from(complement))
+}
+
+/// The step of a candidate.
+fn step_of(x: Candidate) -> Step
+    ensures { result ≡ candidate_step x }
+{
+    Step {
+        op: StepOp::Maj,
+        a: lit_at(x.first, has_bit(x.complements, 0)),
+        b: lit_at(x.second, has_bit(x.complements, 1)),
+        c: lit_at(x.third, has_bit(x.complements, 2)),
+    }
+}
+
+/// Up to `left` turns: the literal of the target, or none where they don't end.
+fn turns(
+    left: u8,
+    vars: u8,
+    target: u64,
+    recipe: &mut Recipe,
+    pool: &mut ArrayVec<u64, 13>,
+) -> Option<Lit>
+    requires few { vars ≤ 4 }
+    requires three { 3 ≤ length pool.old.items }
+    requires room { length pool.old.items + left ≤ 13 }
+    requires places { next_place recipe.old ≡ length pool.old.items }
+    requires short { length recipe.old.steps + left ≤ 128 }
+    ensures { HasTurned recipe.old recipe.new result (turns_of left (word_rows vars target) (words_rows vars pool.old.items)) }
+{
+    if left == 0 {
+        return None;
+    }
+    let best = best_candidate(vars, target, pool.as_slice());
+    if best.agreements <= greatest_reach(vars, target, pool.as_slice()) {
+        return None;
+    }
+    let Ok(lit) = recipe.push(step_of(best.candidate)) else {
+        // not: reached, since a recipe has room for 128 steps
+        return None;
+    };
+    if best.agreements == row_count(vars) {
+        return Some(lit);
+    }
+    pool.push(candidate_word(pool.as_slice(), best.candidate));
+    turns(left - 1, vars, target, recipe, pool)
 }

@@ -1,5 +1,5 @@
-use Rattle.std.proofs.Common.{◌≡◌, ℕ, ◌<◌, ◌≤◌, ◌^◌, Bool, sym, ap, ◌∙◌, slice_index_or, List, length}
-use Rattle.lnet_tables.specs.Bits.{Rows, row, is_set, bit_xor2}
+use Rattle.std.proofs.Common.{◌≡◌, ℕ, ◌<◌, Bool, sym, ◌∙◌, slice_index_or, List, length}
+use Rattle.lnet_tables.specs.Bits.{row, is_set, bit_xor2}
 use Rattle.lnet_tables.specs.Recipes.{apply}
 use Rattle.lnet_tables.specs.declared.step.StepOp.TheVariants.{Maj}
 use Rattle.lnet_tables.proofs.Ops.{same_rows}

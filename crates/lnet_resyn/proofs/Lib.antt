@@ -1,3 +1,6 @@
 pub mod Words
 pub mod Best
 pub mod Turns
+pub mod Proposals
+pub mod Columns
+pub mod MajorityMeans

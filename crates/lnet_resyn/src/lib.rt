@@ -2,6 +2,9 @@
 #![tactic(auto)]
 
 mod majority;
+mod plain;
 mod proposal;
 
+pub use majority::majority_proposal;
+pub use plain::shannon_proposal;
 pub use proposal::Proposal;

@@ -6,12 +6,13 @@ ghost use Rattle.lnet_tables.specs.Bits.{Rows, row, is_set, bit_of, bit_xor2, by
 ghost use Rattle.lnet_tables.specs.Recipes.{RecipeValue, apply, place, next_place, sim};
 ghost use Rattle.lnet_tables.specs.declared.step.StepOp.TheVariants.{Maj};
 ghost use Rattle.lnet_tables.specs.Shannon.{Laid};
-ghost use Rattle.lnet_resyn.specs.Majority.{word_rows, words_rows, agreements as agreements_of, first_pool, candidate_rows, score, IsInside, IsScored, by_complements, by_third, by_second, candidates, best_of, best_candidate as best_of_all, first_candidate, reach as reach_of, pool_reach, lit_at as literal_at, step_of as candidate_step, turns as turns_of, HasTurned, literal_rows, literal_among, literal_of, by_turns, majority_of};
+ghost use Rattle.lnet_resyn.specs.Majority.{word_rows, words_rows, agreements as agreements_of, first_pool, column, candidate_rows, score, IsInside, IsScored, by_complements, by_third, by_second, candidates, best_of, best_candidate as best_of_all, first_candidate, reach as reach_of, pool_reach, lit_at as literal_at, step_of as candidate_step, turns as turns_of, HasTurned, literal_rows, literal_among, literal_of as literal_of_rows, majority_of};
 ghost use Rattle.lnet_resyn.specs.declared.proposal.Proposal.TheVariants.{Use};
 
+use crate::plain::shannon_proposal;
 use crate::proposal::Proposal;
 use arrayvec::ArrayVec;
-use lnet_tables::{Lit, Recipe, Step, StepOp, Table, shannon};
+use lnet_tables::{Lit, Recipe, Step, StepOp, Table};
 
 /// A majority of three columns of the pool, each plain or complemented.
 #[derive(Clone, Copy)]
@@ -296,4 +297,102 @@ fn turns(
     }
     pool.push(candidate_word(pool.as_slice(), best.candidate));
     turns(left - 1, vars, target, recipe, pool)
+}
+
+/// The word of a function of up to four variables: bit `r` is row `r`.
+fn word_of(table: &Table) -> u64
+    requires { table.now.vars ≤ 4 }
+    ensures { word_rows table.now.vars result ≡ table.now }
+{
+    let _vars = table.vars();
+    table.words()[0]
+}
+
+/// The columns at the beginning: false, and the variables in order.
+fn first_columns(vars: u8) -> ArrayVec<u64, 13>
+    requires { vars ≤ 4 }
+    ensures value { words_rows vars result.items ≡ first_pool vars }
+    ensures count { length result.items ≡ vars + 1 }
+{
+    let mut pool = ArrayVec::new();
+    pool.push(0);
+    for i in 0..vars {
+        pool.push(word_of(&Table::variable(vars, i)));
+    }
+    pool
+}
+
+/// The column at a place at the beginning.
+fn column_table(vars: u8, place: u8) -> Table
+    requires few { vars ≤ 4 }
+    requires inside { place ≤ vars }
+    ensures value { result ≡ column vars (first_pool vars) place }
+    ensures vars { result.vars ≡ vars }
+{
+    if place == 0 {
+        Table::constant(vars, false)
+    } else {
+        Table::variable(vars, place - 1)
+    }
+}
+
+/// The function of a literal over the columns at the beginning.
+fn literal_table(vars: u8, literal: u16) -> Table
+    requires few { vars ≤ 4 }
+    requires inside { literal < 2 * (vars + 1) }
+    ensures { result ≡ literal_rows vars (first_pool vars) literal }
+{
+    let column = column_table(vars, (literal / 2) as u8);
+    if literal % 2 == 1 {
+        column.not()
+    } else {
+        column
+    }
+}
+
+/// The constant or the literal that a function is; none where it is neither.
+fn literal_of(table: &Table) -> Option<Lit>
+    requires { table.now.vars ≤ 4 }
+    ensures value { result ≡ literal_of_rows table.now }
+    ensures inside { IfSome result (λ l. place l < table.now.vars + 1) }
+{
+    let vars = table.vars();
+    for literal in 0..2 * (vars as u16 + 1) {
+        if literal_table(vars, literal) == *table {
+            return Some(Lit(literal));
+        }
+    }
+    None
+}
+
+/// The recipe of majorities for `table`, a table of three or four variables.
+///
+/// A constant or a literal takes no step. Else a pool of columns is kept, which begins as false and the leaves in order. Up to
+/// eight times, the majority of three columns, each plain or complemented, that agrees with the table in most rows becomes a
+/// step and a further column; of those that agree in as many rows the first, by the three columns' places and then by their
+/// complements as bits. It ends where that majority agrees in all rows. Where it agrees in no more rows than a column, plain or
+/// complemented, or eight steps don't end it, the recipe is the Shannon expansion of the table.
+///
+/// In outline after S. B. Akers, "Synthesis of Combinational Logic Using Three-Input Majority Gates" (1962). Looks at up to
+/// 8 times C(p, 3) majorities for each of up to eight pools of p columns, each by a few operations on a word.
+pub fn majority_proposal(table: Table) -> Proposal
+    requires least { 3 ≤ table.vars }
+    requires greatest { table.vars ≤ 4 }
+    ensures recipe { result ≡ Use (majority_of table) }
+    ensures function { sim (majority_of table) ≡ table }
+{
+    let vars = table.vars();
+    let mut recipe = Recipe::new(vars);
+    if let Some(root) = literal_of(&table) {
+        recipe.set_root(root);
+        return Proposal::Use(recipe);
+    }
+    let mut pool = first_columns(vars);
+    match turns(8, vars, word_of(&table), &mut recipe, &mut pool) {
+        Some(root) => {
+            recipe.set_root(root);
+            Proposal::Use(recipe)
+        }
+        None => shannon_proposal(table),
+    }
 }

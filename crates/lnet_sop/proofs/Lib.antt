@@ -1,0 +1,3 @@
+pub mod CubeRows
+pub mod TableRows
+pub mod Cubes

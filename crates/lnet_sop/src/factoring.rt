@@ -7,7 +7,7 @@ ghost use Rattle.lnet_sop.specs.Factored.{factored_of};
 
 use crate::cover::{Cover, Cube};
 use lnet_tables::{Lit, Recipe, RecipeFull, Step, StepOp};
-use std::alloc::{AllocError, AllocFailed, Global};
+use std::alloc::{AllocError, Global};
 
 /// Why a cover was not factored.
 #[derive(Clone, Copy, Debug, PartialEq, Eq)]
@@ -30,18 +30,37 @@ impl From<RecipeFull> for FactorError {
     }
 }
 
-impl<T: Drop> From<AllocFailed<T>> for FactorError {
+impl From<AllocError> for FactorError {
     ghost use Rattle.std.specs.Prelude.{◌≡◌};
     ghost use Rattle.lnet_sop.specs.declared.factoring.FactorError.TheVariants.{NoMemory};
 
     ghost from_gives = { λ _ e. e ≡ NoMemory };
 
-    fn from(_: AllocFailed<T>) -> FactorError {
+    fn from(_: AllocError) -> FactorError {
         FactorError::NoMemory
     }
 }
 
-/// The factored form of a cover as a recipe with one leaf for each variable.
+/// The factored form of a cover, as a recipe with one leaf for each variable.
+///
+/// No cube gives false, and a cube without literals gives true. Else the literal that stands in most cubes is taken, ties
+/// by the lower variable, then the plain one before the complemented one.
+///
+/// - Where it stands in one cube at most, each cube is the `and` of its literals in order of their variables, and the
+///   cubes are folded by `or` in order, the steps of each after the `or` of those before it.
+/// - Else the cubes in which it stands are factored without it, which gives `q`, and the product is the literal where `q`
+///   is true and `and(literal, q)` else. The other cubes, where there are some, are factored into `r`, and the result is
+///   `or(product, r)`. The steps of `q` come first, then the product's, then those of `r`.
+///
+/// `or(a, b)` is the complement of one `And` step over the complements of `a` and `b`.
+///
+/// After R. K. Brayton, "Factoring Logic Functions", IBM Journal of Research and Development 31 (1987), with literals as
+/// the only divisors. Each division counts the literals of its cubes once for each of up to 20 literals, and at most 20
+/// are nested, since none of two nested ones takes the same literal.
+///
+/// # Errors
+///
+/// `Full` only where the form has more than 128 steps, and then there is no recipe. `NoMemory` where memory runs out.
 pub fn factor(alloc: Global, cover: &Cover) -> Result<Recipe, FactorError>
     ensures form { IfOk result (λ r. r ≡ factored_of cover.now) }
     ensures function { IfOk result (λ r. sim r ≡ cover_rows cover.now) }
@@ -49,5 +68,164 @@ pub fn factor(alloc: Global, cover: &Cover) -> Result<Recipe, FactorError>
     ensures fits { IsOk result → length (factored_of cover.now).steps ≤ 128 }
     ensures full { result ≡ Err FactorError.Full → 128 < length (factored_of cover.now).steps }
 {
-    Err(FactorError::NoMemory)
+    let mut recipe = Recipe::new(cover.vars);
+    let root = lay(alloc, &mut recipe, &cover.cubes)?;
+    recipe.set_root(root);
+    Ok(recipe)
+}
+
+/// Pushes the steps of the form of some cubes, and answers its literal.
+fn lay(alloc: Global, recipe: &mut Recipe, cubes: &[Cube]) -> Result<Lit, FactorError> {
+    if cubes.iter().any(|cube| cube.care == 0) {
+        return Ok(Lit(1));
+    }
+    let literal = most_common(cubes, recipe.leaves());
+    if uses(cubes, literal) <= 1 {
+        let lit = disjunction(recipe, cubes)?;
+        return Ok(lit);
+    }
+    let divided = quotient(alloc, cubes, literal)?;
+    let quotient = lay(alloc, recipe, &divided)?;
+    let product = multiple(recipe, literal, quotient)?;
+    let left = remainder(alloc, cubes, literal)?;
+    if left.is_empty() {
+        return Ok(product);
+    }
+    let rest = lay(alloc, recipe, &left)?;
+    let lit = or(recipe, product, rest)?;
+    Ok(lit)
+}
+
+/// The first of the literals that stand in most cubes, where the cubes are of `vars` variables.
+fn most_common(cubes: &[Cube], vars: u8) -> Lit {
+    let mut best = Lit(2);
+    for k in 0..2 * vars as u16 {
+        let literal = Lit(k + 2);
+        if uses(cubes, best) < uses(cubes, literal) {
+            best = literal;
+        }
+    }
+    best
+}
+
+/// In how many cubes a literal stands.
+fn uses(cubes: &[Cube], literal: Lit) -> usize {
+    cubes.iter().filter(|cube| stands_in(literal, cube)).count()
+}
+
+/// Whether a leaf's literal stands in a cube.
+fn stands_in(literal: Lit, cube: &Cube) -> bool {
+    let variable = literal.0 / 2 - 1;
+    let plain = literal.0 % 2 == 0;
+    (cube.care >> variable) & 1 == 1 && ((cube.value >> variable) & 1 == 1) == plain
+}
+
+/// The cubes in which a literal stands, without it.
+fn quotient(alloc: Global, cubes: &[Cube], literal: Lit) -> Result<Vec<Cube>, AllocError> {
+    let mut quotient = Vec::new(alloc);
+    for cube in cubes {
+        if stands_in(literal, cube) {
+            quotient.push(without(literal.0 / 2 - 1, cube))?;
+        }
+    }
+    Ok(quotient)
+}
+
+/// The cubes in which a literal does not stand.
+fn remainder(alloc: Global, cubes: &[Cube], literal: Lit) -> Result<Vec<Cube>, AllocError> {
+    let mut remainder = Vec::new(alloc);
+    for cube in cubes {
+        if !stands_in(literal, cube) {
+            remainder.push(*cube)?;
+        }
+    }
+    Ok(remainder)
+}
+
+/// A cube without its literal of a variable.
+fn without(variable: u16, cube: &Cube) -> Cube {
+    Cube {
+        care: cleared(cube.care, variable),
+        value: cleared(cube.value, variable),
+    }
+}
+
+/// The number with bit `index` cleared.
+fn cleared(bits: u16, index: u16) -> u16 {
+    bits - (((bits >> index) & 1) << index)
+}
+
+/// Pushes the steps of the or of some cubes, in order.
+fn disjunction(recipe: &mut Recipe, cubes: &[Cube]) -> Result<Lit, RecipeFull> {
+    let mut lit = Lit(0);
+    for cube in cubes {
+        let term = conjunction(recipe, cube)?;
+        lit = sum(recipe, lit, term)?;
+    }
+    Ok(lit)
+}
+
+/// Pushes the steps of the and of a cube's literals, in the order of their variables.
+fn conjunction(recipe: &mut Recipe, cube: &Cube) -> Result<Lit, RecipeFull> {
+    let mut lit = Lit(1);
+    for variable in 0..recipe.leaves() {
+        if (cube.care >> variable) & 1 == 1 {
+            lit = product(recipe, lit, literal_of(cube, variable))?;
+        }
+    }
+    Ok(lit)
+}
+
+/// The cube's literal of a variable that it cares about.
+fn literal_of(cube: &Cube, variable: u8) -> Lit {
+    let plain = Lit(2 * (variable as u16 + 1));
+    if (cube.value >> variable) & 1 == 1 {
+        plain
+    } else {
+        plain.complement()
+    }
+}
+
+/// The and of `a`, which may be true, and `b`.
+fn product(recipe: &mut Recipe, a: Lit, b: Lit) -> Result<Lit, RecipeFull> {
+    if a == Lit(1) {
+        return Ok(b);
+    }
+    let lit = and(recipe, a, b)?;
+    Ok(lit)
+}
+
+/// The or of `a`, which may be false, and `b`.
+fn sum(recipe: &mut Recipe, a: Lit, b: Lit) -> Result<Lit, RecipeFull> {
+    if a == Lit(0) {
+        return Ok(b);
+    }
+    let lit = or(recipe, a, b)?;
+    Ok(lit)
+}
+
+/// The and of a literal and a quotient, which may be true.
+fn multiple(recipe: &mut Recipe, literal: Lit, quotient: Lit) -> Result<Lit, RecipeFull> {
+    if quotient == Lit(1) {
+        return Ok(literal);
+    }
+    let lit = and(recipe, literal, quotient)?;
+    Ok(lit)
+}
+
+/// Pushes the and of two literals.
+fn and(recipe: &mut Recipe, a: Lit, b: Lit) -> Result<Lit, RecipeFull> {
+    let lit = recipe.push(Step {
+        op: StepOp::And,
+        a,
+        b,
+        c: Lit(0),
+    })?;
+    Ok(lit)
+}
+
+/// Pushes the or of two literals: the complement of the and of their complements.
+fn or(recipe: &mut Recipe, a: Lit, b: Lit) -> Result<Lit, RecipeFull> {
+    let lit = and(recipe, a.complement(), b.complement())?;
+    Ok(lit.complement())
 }

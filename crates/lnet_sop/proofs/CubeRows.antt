@@ -64,7 +64,7 @@ by_value n P h r lt =
     ]
 
 -- ---- cubes
-and_true : (x : Bool) → (x && true) ≡ x
+pub and_true : (x : Bool) → (x && true) ≡ x
 and_true true = refl
 and_true false = refl
 
@@ -149,7 +149,7 @@ pub any_none : (cs : List Cube) → list_any (λ c. false) cs ≡ false
 any_none [] = refl
 any_none (c ∷ cs) = any_none cs
 
-count_cons : (f : Cube → Bool) (c : Cube) (cs : List Cube) → count_by f (c ∷ cs) ≡ cond (f c) 1 0 + count_by f cs
+pub count_cons : (f : Cube → Bool) (c : Cube) (cs : List Cube) → count_by f (c ∷ cs) ≡ cond (f c) 1 0 + count_by f cs
 count_cons f c cs = sum_by-cons (λ x. cond (f x) 1 0) c cs
 
 pub count_like : (f g : Cube → Bool) (cs : List Cube) → All (λ c. f c ≡ g c) cs → count_by f cs ≡ count_by g cs

@@ -1,3 +1,5 @@
 pub mod CubeRows
 pub mod TableRows
 pub mod Cubes
+pub mod Without
+pub mod Laws

@@ -1,8 +1,8 @@
 -- The recursion of the irredundant sum of products: which case holds, and what each makes of the union of its cubes.
-use Rattle.std.proofs.Common.{◌≡◌, ℕ, zero, suc, ◌+◌, ◌-◌, ◌*◌, ◌/◌, ◌%◌, ◌^◌, ◌<◌, ◌≤◌, Bool, true, false, cond, List, [], ◌∷◌, ◌++◌, map, length, refl, sym, ◌∙◌, ap, subst, arith, ◌==◌, ◌||◌, append_assoc}
+use Rattle.std.proofs.Common.{◌≡◌, ℕ, zero, suc, ◌+◌, ◌-◌, ◌*◌, ◌/◌, ◌%◌, ◌^◌, ◌<◌, ◌≤◌, Bool, true, false, cond, List, [], ◌∷◌, ◌++◌, map, length, refl, sym, ◌∙◌, ap, subst, arith, ◌==◌, ◌||◌, append_assoc, length-append, inl, inr}
 use Rattle.std.specs.Prelude.{◌&&◌, All}
-use Rattle.std.proofs.lemmas.Bool.{false≢true, ne_eqb}
-use Rattle.std.proofs.lemmas.Nat.{mod-mul-add}
+use Rattle.std.proofs.lemmas.Bool.{false≢true, ne_eqb, cases_lt}
+use Rattle.std.proofs.lemmas.Nat.{mod-mul-add, pow-add, pow_below}
 use Rattle.std.proofs.lemmas.List.{map-append}
 use Rattle.std.proofs.lemmas.List.Elements.{All-cons, All-nil, All-append, All-map, All-weaker}
 use Rattle.lnet_tables.specs.Bits.{Rows, row, by_rows, bit_of, is_set, equal_rows, and_rows, expand_rows, constant_rows}
@@ -10,7 +10,7 @@ use Rattle.lnet_tables.specs.Inverse.{row_inside}
 use Rattle.lnet_tables.specs.Shannon.{is_constant}
 use Rattle.lnet_tables.proofs.Ops.{same_rows}
 use Rattle.lnet_sop.specs.declared.cover.Cube.{Cube}
-use Rattle.lnet_sop.specs.Covers.{holds, covers, union_rows, IsCube}
+use Rattle.lnet_sop.specs.Covers.{CoverValue, IsCover, holds, covers, union_rows, IsCube}
 use Rattle.lnet_sop.specs.Isop.{universe, with_literal, in_context, half, or_rows, minus_rows, joined_rows, by_halves, by_last, by_bounds, cubes_of}
 use Rattle.lnet_sop.proofs.CubeRows.{two_more, set_here, row_fits, by_value, holds_universe, universe_cube, free_cube, with_cube, covers_free, covers_step}
 
@@ -208,6 +208,78 @@ pub literal_added : (a b : Cube) (p : Bool) (k m : ℕ) → b ≡ record { care 
     → b ≡ record { care = a.care + 2 ^ m; value = a.value + bit_of p * 2 ^ m }
 literal_added a b p k m e f = e ∙ ap (λ j. let x : Cube = record { care = a.care + 2 ^ j; value = a.value + bit_of p * 2 ^ j } in x) f
 
--- how many cubes there are at most
+-- ---- how many cubes there are at most
+length_map : (g : Cube → Cube) (cs : List Cube) → length (map g cs) ≡ length cs
+length_map g [] = refl
+length_map g (c ∷ cs) = ap suc (length_map g cs)
+
+three_more : (n : ℕ) → 3 ^ suc n ≡ 3 * 3 ^ n
+three_more n = (let e : suc n ≡ n + 1 = omega arith in ap (λ k. 3 ^ k) e) ∙ pow-add 3 n 1 ∙ omega arith
+
+some_three : (n : ℕ) → 1 ≤ 3 ^ n
+some_three zero = omega arith
+some_three (suc n) = omega (arith, three_more n, some_three n)
+
+last_few : (b : Bool) (f : Rows → Rows → List Cube) (n : ℕ) (low high under over : Rows) → ((l u : Rows) → length (f l u) ≤ 3 ^ n) → length (by_last b f n low high under over) ≤ 3 * 3 ^ n
+last_few true f n low high under over h = omega (arith, h low under)
+last_few false f n low high under over h =
+    let c0 : List Cube = f (minus_rows low over) under in
+    let c1 : List Cube = f (minus_rows high under) over in
+    let left : Rows = or_rows (minus_rows low (union_rows n c0)) (minus_rows high (union_rows n c1)) in
+    let cd : List Cube = f left (and_rows under over) in
+    omega (
+      arith,
+      length-append (map (with_literal n false) c0) (map (with_literal n true) c1 ++ cd),
+      length-append (map (with_literal n true) c1) cd,
+      length_map (with_literal n false) c0,
+      length_map (with_literal n true) c1,
+      h (minus_rows low over) under,
+      h (minus_rows high under) over,
+      h left (and_rows under over),
+    )
+
+bounds_few : (b d : Bool) (f : Rows → Rows → List Cube) (n : ℕ) (low high under over : Rows) → ((l u : Rows) → length (f l u) ≤ 3 ^ n) → length (by_bounds b d f n low high under over) ≤ 3 * 3 ^ n
+bounds_few true d f n low high under over h = omega arith
+bounds_few false true f n low high under over h = omega (arith, some_three n)
+bounds_few false false f n low high under over h = last_few (equal_rows low high && equal_rows under over) f n low high under over h
+
+zero_few : (b : Bool) → length (cond b [] (universe ∷ [])) ≤ 1
+zero_few true = omega arith
+zero_few false = omega arith
+
 pub cubes_few : (n : ℕ) (lower upper : Rows) → length (cubes_of n lower upper) ≤ 3 ^ n
-cubes_few n lower upper = ?
+unfolding cubes_of
+cubes_few zero lower upper = zero_few (is_constant lower false)
+cubes_few (suc n) lower upper =
+    let k : length (cubes_of (suc n) lower upper) ≤ 3 * 3 ^ n =
+    bounds_few (is_constant lower false) (is_constant upper true) (λ l u. cubes_of n l u) n (half lower n false) (half lower n true) (half upper n false) (half upper n true) (λ l u. cubes_few n l u) in
+    omega (arith, k, three_more n)
+
+powers_of_three : (d n : ℕ) → 3 ^ n ≤ 3 ^ (d + n)
+powers_of_three zero n = (let e : 0 + n ≡ n = omega arith in subst (λ (k : ℕ). 3 ^ n ≤ 3 ^ k) (sym e) (omega arith))
+powers_of_three (suc d) n =
+    let e : suc d + n ≡ suc (d + n) = omega arith in
+    subst (λ (k : ℕ). 3 ^ n ≤ 3 ^ k) (sym e) (omega (arith, powers_of_three d n, three_more (d + n)))
+
+pub cubes_short : (n : ℕ) (lower upper : Rows) → n ≤ 10 → length (cubes_of n lower upper) ≤ 59049
+cubes_short n lower upper few =
+    let e : 10 - n + n ≡ 10 = omega arith in
+    let k : 3 ^ n ≤ 3 ^ 10 = subst (λ (j : ℕ). 3 ^ n ≤ 3 ^ j) e (powers_of_three (10 - n) n) in
+    omega (arith, k, cubes_few n lower upper)
+
+-- ---- the call
+pub begun : (cs before after : List Cube) (a : Cube) → before ≡ [] → a.care ≡ 0 → a.value ≡ 0 → after ≡ before ++ map (in_context a) cs → after ≡ cs
+begun cs before after a eb ec ev e = e ∙ ap (λ (x : List Cube). x ++ map (in_context a) cs) eb ∙ context_none cs a ec ev
+
+pub cover_fits : (n : ℕ) (l u : Rows) (cs : List Cube) → cs ≡ cubes_of l.vars l u → n ≡ l.vars → n ≤ 10 → IsCover n cs
+cover_fits n l u cs e en few = record {
+  few = few;
+  short = omega (arith, ap length e, cubes_short l.vars l u (omega arith));
+  each = subst (λ (k : ℕ). All (IsCube k) cs) (sym en) (subst (λ (ds : List Cube). All (IsCube l.vars) ds) (sym e) (cubes_each l.vars l u));
+}
+
+pub value_is : (n m : ℕ) (cs ds : List Cube) → n ≡ m → cs ≡ ds → (let x : CoverValue = record { vars = n; cubes = cs } in x) ≡ record { vars = m; cubes = ds }
+value_is n m cs ds en e = ap (λ (k : ℕ). let x : CoverValue = record { vars = k; cubes = cs } in x) en ∙ ap (λ (k : List Cube). let x : CoverValue = record { vars = m; cubes = k } in x) e
+
+pub room : (n : ℕ) → n ≤ 10 → 2 ^ n ≤ 1024
+room n few = elim (cases_lt n 10) [ inl l ↦ let k : 2 ^ n < 2 ^ 10 = pow_below n 10 l in omega arith | inr g ↦ let e : n ≡ 10 = omega arith in rw e (omega arith) ]

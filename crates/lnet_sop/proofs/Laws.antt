@@ -52,8 +52,8 @@ half_row : (n : ℕ) (t : Rows) (b : Bool) (x : ℕ) → x < 2 ^ n → row (half
 half_row n t b x lt = row_inside n (λ r. row t (bit_of b * 2 ^ n + r)) x lt
 
 -- a constant table, and one that isn't false
-constant_rows_are : (n : ℕ) (t : Rows) (b : Bool) (r : ℕ) → IsTable n t → is_constant t b ≡ true → r < 2 ^ n → row t r ≡ b
-constant_rows_are n t b r h e lt = ap (λ (x : Rows). row x r) ((equal_rows_decides t (constant_rows t.vars b)).0 e) ∙ row_inside t.vars (λ k. b) r (below n t r h lt)
+constant_rows_are : (n : ℕ) (t : Rows) (b : Bool) (r : ℕ) → t.vars ≡ n → is_constant t b ≡ true → r < 2 ^ n → row t r ≡ b
+constant_rows_are n t b r h e lt = ap (λ (x : Rows). row x r) ((equal_rows_decides t (constant_rows t.vars b)).0 e) ∙ row_inside t.vars (λ k. b) r (subst (λ (k : ℕ). r < 2 ^ k) (sym h) lt)
 
 some_row : (f : ℕ → Bool) (k : ℕ) → ((r : ℕ) × (r < k) × (f r ≡ true)) ⊎ ((r : ℕ) → r < k → f r ≡ false)
 some_row f zero = inr (λ r lt. absurd (omega arith))
@@ -438,7 +438,7 @@ lawful_passed n l u low high under over cs h el eu each law = record {
 -- ---- the ends of the recursion
 lawful_none : (n : ℕ) (l u : Rows) → IsTable n l → is_constant l false ≡ true → Lawful n l u []
 lawful_none n l u h e = record {
-  due = λ r lt d. absurd (false≢true (sym (constant_rows_are n l false r h e lt) ∙ d));
+  due = λ r lt d. absurd (false≢true (sym (constant_rows_are n l false r h.vars e lt) ∙ d));
   primes = All-nil (IsPrime n u);
   needed = All-nil (IsNeeded n l []);
 }
@@ -460,29 +460,29 @@ lawful_whole n l u h e on =
 
 -- ---- the recursion
 abbrev Good : ℕ → (Rows → Rows → List Cube) → Type 0
-Good n f = (l u : Rows) → IsTable n l → IsTable n u → Implies n l u → Lawful n l u (f l u)
+Good n f = (l u : Rows) → IsTable n l → u.vars ≡ n → Implies n l u → Lawful n l u (f l u)
 
 lawful_last : (b : Bool) (f : Rows → Rows → List Cube) (n : ℕ) (l u low high under over : Rows) → b ≡ (equal_rows low high && equal_rows under over)
     → Halves n l u low high under over → ((a b : Rows) → All (IsCube n) (f a b)) → Good n f → Lawful (suc n) l u (by_last b f n low high under over)
 lawful_last true f n l u low high under over e h each good =
     let same : (equal_rows low high ≡ true) × (equal_rows under over ≡ true) = and_parts (equal_rows low high) (equal_rows under over) (sym e) in
-    lawful_passed n l u low high under over (f low under) h ((equal_rows_decides low high).0 same.0) ((equal_rows_decides under over).0 same.1) (each low under) (good low under h.low_is h.under_is h.first)
+    lawful_passed n l u low high under over (f low under) h ((equal_rows_decides low high).0 same.0) ((equal_rows_decides under over).0 same.1) (each low under) (good low under h.low_is h.under_is.vars h.first)
 lawful_last false f n l u low high under over e h each good =
     let c0 : List Cube = f (minus_rows low over) under in
     let c1 : List Cube = f (minus_rows high under) over in
     let left : Rows = or_rows (minus_rows low (union_rows n c0)) (minus_rows high (union_rows n c1)) in
-    let law0 : Lawful n (minus_rows low over) under c0 = good (minus_rows low over) under (and_table n low (not_rows over) h.low_is) h.under_is (minus_first n low over under h.low_is h.over_is h.first) in
-    let law1 : Lawful n (minus_rows high under) over c1 = good (minus_rows high under) over (and_table n high (not_rows under) h.high_is) h.over_is (minus_first n high under over h.high_is h.under_is h.second) in
+    let law0 : Lawful n (minus_rows low over) under c0 = good (minus_rows low over) under (and_table n low (not_rows over) h.low_is) h.under_is.vars (minus_first n low over under h.low_is h.over_is h.first) in
+    let law1 : Lawful n (minus_rows high under) over c1 = good (minus_rows high under) over (and_table n high (not_rows under) h.high_is) h.over_is.vars (minus_first n high under over h.high_is h.under_is h.second) in
     lawful_step n l u low high under over c0 c1 (f left (and_rows under over)) h (record {
       cubes0 = each (minus_rows low over) under;
       cubes1 = each (minus_rows high under) over;
       cubesd = each left (and_rows under over);
       law0 = law0;
       law1 = law1;
-      lawd = good left (and_rows under over) (or_table n (minus_rows low (union_rows n c0)) (minus_rows high (union_rows n c1)) (and_table n low (not_rows (union_rows n c0)) h.low_is)) (and_table n under over h.under_is) (left_implies n l u low high under over c0 c1 h law0 law1);
+      lawd = good left (and_rows under over) (or_table n (minus_rows low (union_rows n c0)) (minus_rows high (union_rows n c1)) (and_table n low (not_rows (union_rows n c0)) h.low_is)) (and_table n under over h.under_is).vars (left_implies n l u low high under over c0 c1 h law0 law1);
     })
 
-lawful_bounds : (a b : Bool) (f : Rows → Rows → List Cube) (n : ℕ) (l u low high under over : Rows) → a ≡ is_constant l false → b ≡ is_constant u true → IsTable (suc n) l → IsTable (suc n) u
+lawful_bounds : (a b : Bool) (f : Rows → Rows → List Cube) (n : ℕ) (l u low high under over : Rows) → a ≡ is_constant l false → b ≡ is_constant u true → IsTable (suc n) l → u.vars ≡ suc n
     → Halves n l u low high under over → ((a b : Rows) → All (IsCube n) (f a b)) → Good n f → Lawful (suc n) l u (by_bounds a b f n low high under over)
 lawful_bounds true b f n l u low high under over ea eb tl tu h each good = lawful_none (suc n) l u tl (sym ea)
 lawful_bounds false true f n l u low high under over ea eb tl tu h each good = lawful_whole (suc n) l u tl (sym ea) (λ r lt. constant_rows_are (suc n) u true r tu (sym eb) lt)
@@ -495,9 +495,21 @@ lawful_zero false l u e h imp =
     let here : w.0 ≡ 0 = omega (arith, w.1) in
     lawful_whole 0 l u h (sym e) (λ r lt. let z : w.0 ≡ r = omega (arith, w.1, lt) in subst (λ (k : ℕ). row u k ≡ true) z (imp w.0 w.1 w.2))
 
-pub lawful : (n : ℕ) (l u : Rows) → IsTable n l → IsTable n u → Implies n l u → Lawful n l u (cubes_of n l u)
+pub lawful : (n : ℕ) (l u : Rows) → IsTable n l → u.vars ≡ n → Implies n l u → Lawful n l u (cubes_of n l u)
 unfolding cubes_of
 lawful zero l u tl tu h = lawful_zero (is_constant l false) l u refl tl h
 lawful (suc n) l u tl tu h =
     lawful_bounds (is_constant l false) (is_constant u true) (λ a b. cubes_of n a b) n l u (half l n false) (half l n true) (half u n false) (half u n true) refl refl tl tu
     (halves_of n l u h) (λ a b. cubes_each n a b) (λ a b ta tb i. lawful n a b ta tb i)
+
+-- the same in the words of the call
+pub isop_lawful : (n : ℕ) (l u : Rows) (cs : List Cube) → cs ≡ cubes_of l.vars l u → n ≡ l.vars → length l.bits ≡ 2 ^ l.vars → l.vars ≡ u.vars → Implies l.vars l u → Lawful n l u cs
+isop_lawful n l u cs e en long same h =
+    let tl : IsTable l.vars l = record { vars = refl; long = long } in
+    subst (λ (k : ℕ). Lawful k l u cs) (sym en) (subst (λ (ds : List Cube). Lawful l.vars l u ds) (sym e) (lawful l.vars l u tl (sym same) h))
+
+pub isop_due : (n : ℕ) (l u : Rows) (cs : List Cube) → Lawful n l u cs → n ≡ l.vars → (r : ℕ) → r < 2 ^ l.vars → row l r ≡ true → covers n cs r ≡ true
+isop_due n l u cs law e r lt = law.due r (subst (λ (k : ℕ). r < 2 ^ k) (sym e) lt)
+
+pub isop_within : (n : ℕ) (l u : Rows) (cs : List Cube) → Lawful n l u cs → n ≡ l.vars → (r : ℕ) → r < 2 ^ l.vars → covers n cs r ≡ true → row u r ≡ true
+isop_within n l u cs law e r lt = within n u cs law.primes r (subst (λ (k : ℕ). r < 2 ^ k) (sym e) lt)

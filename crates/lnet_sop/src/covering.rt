@@ -37,6 +37,10 @@ pub fn isop(alloc: Global, lower: Table, upper: Table) -> Result<Cover, AllocErr
     requires vars { lower.vars ≡ upper.vars }
     requires implies { (r : ℕ) → r < 2 ^ lower.vars → IsTrue (row_of lower r) → IsTrue (row_of upper r) }
     ensures cubes { IfOk result (λ c. c ≡ isop_of lower upper) }
+    ensures due { IfOk result (λ c. (r : ℕ) → r < 2 ^ lower.vars → IsTrue (row_of lower r) → IsTrue (covers c.vars c.cubes r)) }
+    ensures within { IfOk result (λ c. (r : ℕ) → r < 2 ^ lower.vars → IsTrue (covers c.vars c.cubes r) → IsTrue (row_of upper r)) }
+    ensures prime { IfOk result (λ c. All (IsPrime c.vars upper) c.cubes) }
+    ensures irredundant { IfOk result (λ c. All (IsNeeded c.vars lower c.cubes) c.cubes) }
 {
     let vars = lower.vars();
     let mut cubes = Vec::new(alloc);

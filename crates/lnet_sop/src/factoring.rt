@@ -1,9 +1,13 @@
 //! Factored forms of covers.
 
-ghost use Rattle.std.specs.Prelude.{◌≡◌, ◌≤◌, ◌<◌, ℕ, length, IfOk, IsOk};
-ghost use Rattle.lnet_tables.specs.Recipes.{sim};
-ghost use Rattle.lnet_sop.specs.Covers.{cover_rows};
-ghost use Rattle.lnet_sop.specs.Factored.{factored_of};
+ghost use Rattle.std.specs.Prelude.{◌≡◌, ◌≤◌, ◌<◌, ◌+◌, ◌-◌, ◌*◌, ◌/◌, ℕ, length, All, false, IfOk, IsOk};
+ghost use Rattle.std.specs.List.{list_any};
+ghost use Rattle.lnet_tables.specs.Bits.{is_set as set_in, with_bit};
+ghost use Rattle.lnet_tables.specs.Recipes.{sim, place, next_place};
+ghost use Rattle.lnet_tables.specs.Shannon.{Lays, and_at, or_at};
+ghost use Rattle.lnet_sop.specs.Covers.{IsCube, cover_rows};
+ghost use Rattle.lnet_sop.specs.Irredundant.{without as cube_without};
+ghost use Rattle.lnet_sop.specs.Factored.{Forms, factored_of, form_of, is_universe, most_common as most_common_of, uses as uses_of, stands_in as stands, quotient as quotient_of, remainder as remainder_of, product_at, sum_at, multiple_at, literal_at, cube_at, literal_of as cube_literal, conjunction as conjunction_of, disjunction as disjunction_of};
 
 use crate::cover::{Cover, Cube};
 use lnet_tables::{Lit, Recipe, RecipeFull, Step, StepOp};
@@ -75,8 +79,13 @@ pub fn factor(alloc: Global, cover: &Cover) -> Result<Recipe, FactorError>
 }
 
 /// Pushes the steps of the form of some cubes, and answers its literal.
-fn lay(alloc: Global, recipe: &mut Recipe, cubes: &[Cube]) -> Result<Lit, FactorError> {
-    if cubes.iter().any(|cube| cube.care == 0) {
+fn lay(alloc: Global, recipe: &mut Recipe, cubes: &[Cube]) -> Result<Lit, FactorError>
+    requires few { recipe.old.leaves ≤ 10 }
+    requires short { length recipe.old.steps ≤ 128 }
+    requires each { All (IsCube recipe.old.leaves) cubes.now }
+    ensures { Forms recipe.old recipe.new result (form_of recipe.old.leaves (next_place recipe.old) cubes.now) }
+{
+    if has_universe(cubes) {
         return Ok(Lit(1));
     }
     let literal = most_common(cubes, recipe.leaves());
@@ -96,8 +105,20 @@ fn lay(alloc: Global, recipe: &mut Recipe, cubes: &[Cube]) -> Result<Lit, Factor
     Ok(lit)
 }
 
+/// Whether some cube has no literal.
+fn has_universe(cubes: &[Cube]) -> bool
+    ensures { result ≡ list_any is_universe cubes.now }
+{
+    cubes.iter().any(|cube| cube.care == 0)
+}
+
 /// The first of the literals that stand in most cubes, where the cubes are of `vars` variables.
-fn most_common(cubes: &[Cube], vars: u8) -> Lit {
+fn most_common(cubes: &[Cube], vars: u8) -> Lit
+    requires { vars ≤ 10 }
+    ensures value { result ≡ most_common_of (2 * vars) cubes.now }
+    ensures leaf { 2 ≤ result.0 }
+    ensures last { result.0 < 22 }
+{
     let mut best = Lit(2);
     for k in 0..2 * vars as u16 {
         let literal = Lit(k + 2);
@@ -108,20 +129,45 @@ fn most_common(cubes: &[Cube], vars: u8) -> Lit {
     best
 }
 
-/// In how many cubes a literal stands.
-fn uses(cubes: &[Cube], literal: Lit) -> usize {
-    cubes.iter().filter(|cube| stands_in(literal, cube)).count()
+/// In how many cubes a literal of a leaf stands.
+fn uses(cubes: &[Cube], literal: Lit) -> usize
+    requires leaf { 2 ≤ literal.0 }
+    requires last { literal.0 < 22 }
+    ensures { result ≡ uses_of cubes.now literal }
+{
+    let mut count = 0;
+    for cube in cubes {
+        if stands_in(literal, cube) {
+            count += 1;
+        }
+    }
+    count
 }
 
-/// Whether a leaf's literal stands in a cube.
-fn stands_in(literal: Lit, cube: &Cube) -> bool {
+/// Whether a literal of a leaf stands in a cube.
+fn stands_in(literal: Lit, cube: &Cube) -> bool
+    requires leaf { 2 ≤ literal.0 }
+    requires last { literal.0 < 22 }
+    ensures { result ≡ stands literal cube.now }
+{
     let variable = literal.0 / 2 - 1;
-    let plain = literal.0 % 2 == 0;
-    (cube.care >> variable) & 1 == 1 && ((cube.value >> variable) & 1 == 1) == plain
+    is_set(cube.care, variable) && is_set(cube.value, variable) == (literal.0 % 2 == 0)
 }
 
-/// The cubes in which a literal stands, without it.
-fn quotient(alloc: Global, cubes: &[Cube], literal: Lit) -> Result<Vec<Cube>, AllocError> {
+/// Whether bit `index` is set.
+fn is_set(bits: u16, index: u16) -> bool
+    requires { index < 16 }
+    ensures { result ≡ set_in bits index }
+{
+    (bits >> index) & 1 == 1
+}
+
+/// The cubes in which a literal of a leaf stands, without it.
+fn quotient(alloc: Global, cubes: &[Cube], literal: Lit) -> Result<Vec<Cube>, AllocError>
+    requires leaf { 2 ≤ literal.0 }
+    requires last { literal.0 < 22 }
+    ensures { IfOk result (λ v. v.items ≡ quotient_of literal cubes.now) }
+{
     let mut quotient = Vec::new(alloc);
     for cube in cubes {
         if stands_in(literal, cube) {
@@ -131,8 +177,12 @@ fn quotient(alloc: Global, cubes: &[Cube], literal: Lit) -> Result<Vec<Cube>, Al
     Ok(quotient)
 }
 
-/// The cubes in which a literal does not stand.
-fn remainder(alloc: Global, cubes: &[Cube], literal: Lit) -> Result<Vec<Cube>, AllocError> {
+/// The cubes in which a literal of a leaf does not stand.
+fn remainder(alloc: Global, cubes: &[Cube], literal: Lit) -> Result<Vec<Cube>, AllocError>
+    requires leaf { 2 ≤ literal.0 }
+    requires last { literal.0 < 22 }
+    ensures { IfOk result (λ v. v.items ≡ remainder_of literal cubes.now) }
+{
     let mut remainder = Vec::new(alloc);
     for cube in cubes {
         if !stands_in(literal, cube) {
@@ -143,7 +193,10 @@ fn remainder(alloc: Global, cubes: &[Cube], literal: Lit) -> Result<Vec<Cube>, A
 }
 
 /// A cube without its literal of a variable.
-fn without(variable: u16, cube: &Cube) -> Cube {
+fn without(variable: u16, cube: &Cube) -> Cube
+    requires { variable < 10 }
+    ensures { result ≡ cube_without variable cube.now }
+{
     Cube {
         care: cleared(cube.care, variable),
         value: cleared(cube.value, variable),
@@ -151,44 +204,88 @@ fn without(variable: u16, cube: &Cube) -> Cube {
 }
 
 /// The number with bit `index` cleared.
-fn cleared(bits: u16, index: u16) -> u16 {
+fn cleared(bits: u16, index: u16) -> u16
+    requires { index < 10 }
+    ensures { result ≡ with_bit bits index false }
+{
     bits - (((bits >> index) & 1) << index)
 }
 
 /// Pushes the steps of the or of some cubes, in order.
-fn disjunction(recipe: &mut Recipe, cubes: &[Cube]) -> Result<Lit, RecipeFull> {
+fn disjunction(recipe: &mut Recipe, cubes: &[Cube]) -> Result<Lit, RecipeFull>
+    requires few { recipe.old.leaves ≤ 10 }
+    requires short { length recipe.old.steps ≤ 128 }
+    ensures { Lays recipe.old recipe.new result (disjunction_of (length cubes.now) recipe.old.leaves (next_place recipe.old) cubes.now) }
+{
     let mut lit = Lit(0);
     for cube in cubes {
-        let term = conjunction(recipe, cube)?;
-        lit = sum(recipe, lit, term)?;
+        lit = with_cube(recipe, lit, cube)?;
     }
+    Ok(lit)
+}
+
+/// Pushes the steps of a cube, and of its or with `a`, which may be false.
+fn with_cube(recipe: &mut Recipe, a: Lit, cube: &Cube) -> Result<Lit, RecipeFull>
+    requires few { recipe.old.leaves ≤ 10 }
+    requires short { length recipe.old.steps ≤ 128 }
+    requires inside { place a < next_place recipe.old }
+    ensures { Lays recipe.old recipe.new result (cube_at recipe.old.leaves (next_place recipe.old) a cube.now) }
+{
+    let term = conjunction(recipe, cube)?;
+    let lit = sum(recipe, a, term)?;
     Ok(lit)
 }
 
 /// Pushes the steps of the and of a cube's literals, in the order of their variables.
-fn conjunction(recipe: &mut Recipe, cube: &Cube) -> Result<Lit, RecipeFull> {
+fn conjunction(recipe: &mut Recipe, cube: &Cube) -> Result<Lit, RecipeFull>
+    requires few { recipe.old.leaves ≤ 10 }
+    requires short { length recipe.old.steps ≤ 128 }
+    ensures { Lays recipe.old recipe.new result (conjunction_of recipe.old.leaves (next_place recipe.old) cube.now) }
+{
     let mut lit = Lit(1);
     for variable in 0..recipe.leaves() {
-        if (cube.care >> variable) & 1 == 1 {
-            lit = product(recipe, lit, literal_of(cube, variable))?;
-        }
+        lit = with_literal(recipe, lit, cube, variable)?;
     }
     Ok(lit)
 }
 
+/// Pushes the and of `a`, which may be true, and the cube's literal of a variable, where it has one.
+fn with_literal(recipe: &mut Recipe, a: Lit, cube: &Cube, variable: u8) -> Result<Lit, RecipeFull>
+    requires short { length recipe.old.steps ≤ 128 }
+    requires inside { place a < next_place recipe.old }
+    requires leaf { variable < recipe.old.leaves }
+    requires few { variable < 10 }
+    ensures { Lays recipe.old recipe.new result (literal_at (next_place recipe.old) a cube.now variable) }
+{
+    if !is_set(cube.care, variable as u16) {
+        return Ok(a);
+    }
+    let lit = product(recipe, a, literal_of(cube, variable))?;
+    Ok(lit)
+}
+
 /// The cube's literal of a variable that it cares about.
-fn literal_of(cube: &Cube, variable: u8) -> Lit {
-    let plain = Lit(2 * (variable as u16 + 1));
-    if (cube.value >> variable) & 1 == 1 {
-        plain
+fn literal_of(cube: &Cube, variable: u8) -> Lit
+    requires { variable < 10 }
+    ensures value { result ≡ cube_literal cube.now variable }
+    ensures place { place result ≡ variable + 1 }
+{
+    let plain = 2 * (variable as u16 + 1);
+    if is_set(cube.value, variable as u16) {
+        Lit(plain)
     } else {
-        plain.complement()
+        Lit(plain + 1)
     }
 }
 
 /// The and of `a`, which may be true, and `b`.
-fn product(recipe: &mut Recipe, a: Lit, b: Lit) -> Result<Lit, RecipeFull> {
-    if a == Lit(1) {
+fn product(recipe: &mut Recipe, a: Lit, b: Lit) -> Result<Lit, RecipeFull>
+    requires short { length recipe.old.steps ≤ 128 }
+    requires a { place a < next_place recipe.old }
+    requires b { place b < next_place recipe.old }
+    ensures { Lays recipe.old recipe.new result (product_at (next_place recipe.old) a b) }
+{
+    if a.0 == 1 {
         return Ok(b);
     }
     let lit = and(recipe, a, b)?;
@@ -196,8 +293,13 @@ fn product(recipe: &mut Recipe, a: Lit, b: Lit) -> Result<Lit, RecipeFull> {
 }
 
 /// The or of `a`, which may be false, and `b`.
-fn sum(recipe: &mut Recipe, a: Lit, b: Lit) -> Result<Lit, RecipeFull> {
-    if a == Lit(0) {
+fn sum(recipe: &mut Recipe, a: Lit, b: Lit) -> Result<Lit, RecipeFull>
+    requires short { length recipe.old.steps ≤ 128 }
+    requires a { place a < next_place recipe.old }
+    requires b { place b < next_place recipe.old }
+    ensures { Lays recipe.old recipe.new result (sum_at (next_place recipe.old) a b) }
+{
+    if a.0 == 0 {
         return Ok(b);
     }
     let lit = or(recipe, a, b)?;
@@ -205,8 +307,13 @@ fn sum(recipe: &mut Recipe, a: Lit, b: Lit) -> Result<Lit, RecipeFull> {
 }
 
 /// The and of a literal and a quotient, which may be true.
-fn multiple(recipe: &mut Recipe, literal: Lit, quotient: Lit) -> Result<Lit, RecipeFull> {
-    if quotient == Lit(1) {
+fn multiple(recipe: &mut Recipe, literal: Lit, quotient: Lit) -> Result<Lit, RecipeFull>
+    requires short { length recipe.old.steps ≤ 128 }
+    requires literal { place literal < next_place recipe.old }
+    requires quotient { place quotient < next_place recipe.old }
+    ensures { Lays recipe.old recipe.new result (multiple_at (next_place recipe.old) literal quotient) }
+{
+    if quotient.0 == 1 {
         return Ok(literal);
     }
     let lit = and(recipe, literal, quotient)?;
@@ -214,7 +321,11 @@ fn multiple(recipe: &mut Recipe, literal: Lit, quotient: Lit) -> Result<Lit, Rec
 }
 
 /// Pushes the and of two literals.
-fn and(recipe: &mut Recipe, a: Lit, b: Lit) -> Result<Lit, RecipeFull> {
+fn and(recipe: &mut Recipe, a: Lit, b: Lit) -> Result<Lit, RecipeFull>
+    requires a { place a < next_place recipe.old }
+    requires b { place b < next_place recipe.old }
+    ensures { Lays recipe.old recipe.new result (and_at (next_place recipe.old) a b) }
+{
     let lit = recipe.push(Step {
         op: StepOp::And,
         a,
@@ -225,7 +336,11 @@ fn and(recipe: &mut Recipe, a: Lit, b: Lit) -> Result<Lit, RecipeFull> {
 }
 
 /// Pushes the or of two literals: the complement of the and of their complements.
-fn or(recipe: &mut Recipe, a: Lit, b: Lit) -> Result<Lit, RecipeFull> {
+fn or(recipe: &mut Recipe, a: Lit, b: Lit) -> Result<Lit, RecipeFull>
+    requires a { place a < next_place recipe.old }
+    requires b { place b < next_place recipe.old }
+    ensures { Lays recipe.old recipe.new result (or_at (next_place recipe.old) a b) }
+{
     let lit = and(recipe, a.complement(), b.complement())?;
     Ok(lit.complement())
 }

@@ -3,3 +3,5 @@ pub mod TableRows
 pub mod Cubes
 pub mod Without
 pub mod Laws
+pub mod Pushing
+pub mod Factors

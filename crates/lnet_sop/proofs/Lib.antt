@@ -1,0 +1,7 @@
+pub mod CubeRows
+pub mod TableRows
+pub mod Cubes
+pub mod Without
+pub mod Laws
+pub mod Pushing
+pub mod Factors

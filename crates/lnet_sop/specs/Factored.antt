@@ -1,14 +1,18 @@
 -- Factored forms of covers: algebraic division by the literal that stands in most cubes. Source: R. K. Brayton, "Factoring
 -- Logic Functions", IBM Journal of Research and Development 31 (1987); here literals are the only divisors.
-use Rattle.std.specs.Prelude.{ℕ, zero, suc, ◌+◌, ◌-◌, ◌*◌, ◌/◌, ◌%◌, length, Bool, true, false, not, cond, List, [], ◌∷◌, ◌==◌, ◌&&◌, nat_lt, nat_le, map}
+use Rattle.std.specs.Prelude.{Result, Err, IsOk, OnOk, IfOk, ◌≡◌, ◌≤◌, ◌<◌, ℕ, zero, suc, ◌+◌, ◌-◌, ◌*◌, ◌/◌, ◌%◌, length, Bool, true, false, not, cond, List, [], ◌∷◌, ◌++◌, ◌==◌, ◌&&◌, nat_lt, nat_le, map}
 use Rattle.std.specs.List.{list_any, count_by, filter, sum_by}
 use mathlib.Core.Bool.{beq}
+use lib.ListN.{get_or}
 use Rattle.lnet_tables.specs.Bits.{bit_of, is_set}
 use Rattle.lnet_tables.specs.declared.step.Lit.{Lit}
-use Rattle.lnet_tables.specs.Recipes.{RecipeValue, place}
+use Rattle.lnet_tables.specs.Recipes.{RecipeValue, place, next_place}
 use Rattle.lnet_tables.specs.Shannon.{Laid, given, after, and_at, or_at}
 use Rattle.lnet_sop.specs.declared.cover.Cube.{Cube}
+use Rattle.lnet_sop.specs.declared.factoring.FactorError.{FactorError}
+use Rattle.lnet_sop.specs.declared.factoring.FactorError.TheVariants.{Full}
 use Rattle.lnet_sop.specs.Covers.{CoverValue}
+use Rattle.lnet_sop.specs.Isop.{universe}
 use Rattle.lnet_sop.specs.Irredundant.{without}
 
 -- ---- literals
@@ -62,20 +66,29 @@ sum_at p a b = cond (a.0 == 0) (given b) (or_at p a b)
 abbrev pub multiple_at : ℕ → Lit → Lit → Laid
 multiple_at p l q = cond (q.0 == 1) (given l) (and_at p l q)
 
+-- the and of a, which may be true, and the cube's literal of a variable, where it has one
+abbrev pub literal_at : ℕ → Lit → Cube → ℕ → Laid
+literal_at p a c i = cond (is_set c.care i) (product_at p a (literal_of c i)) (given a)
+
 -- the and of a cube's literals of the first n variables, from the first to the last: true where there is none
 unfoldable pub conjunction : ℕ → ℕ → Cube → Laid
 conjunction zero p c = given (record { 0 = 1 })
 conjunction (suc n) p c =
     let front : Laid = conjunction n p c in
-    cond (is_set c.care n) (after front (product_at (p + length front.steps) front.root (literal_of c n))) front
+    after front (literal_at (p + length front.steps) front.root c n)
 
--- the or of a, which may be false, and cubes of n variables in order; each cube's steps come after the or before it
-unfoldable pub disjunction : ℕ → ℕ → Lit → List Cube → Laid
-disjunction n p a [] = given a
-disjunction n p a (c ∷ cs) =
-    let x : Laid = conjunction n p c in
-    let y : Laid = sum_at (p + length x.steps) a x.root in
-    after x (after y (disjunction n (p + length x.steps + length y.steps) y.root cs))
+-- the or of a, which may be false, and a cube of n variables, whose steps come first
+abbrev pub cube_at : ℕ → ℕ → Lit → Cube → Laid
+cube_at n p a c =
+    let cube : Laid = conjunction n p c in
+    after cube (sum_at (p + length cube.steps) a cube.root)
+
+-- the or of the first k cubes, from the first to the last: false where there is none
+unfoldable pub disjunction : ℕ → ℕ → ℕ → List Cube → Laid
+disjunction zero n p cs = given (record { 0 = 0 })
+disjunction (suc k) n p cs =
+    let front : Laid = disjunction k n p cs in
+    after front (cube_at n (p + length front.steps) front.root (get_or cs k universe))
 
 -- ---- the procedure
 -- the or of t and the form of the cubes that are left, if there are any
@@ -94,7 +107,7 @@ divided f p l cs =
 
 -- by the literal that stands in most cubes; the flag says that it stands in one at most
 abbrev pub by_literal : Bool → (ℕ → List Cube → Laid) → ℕ → ℕ → Lit → List Cube → Laid
-by_literal true f n p l cs = disjunction n p (record { 0 = 0 }) cs
+by_literal true f n p l cs = disjunction (length cs) n p cs
 by_literal false f n p l cs = divided f p l cs
 
 -- true where a cube has no literal, as the flag says
@@ -128,3 +141,13 @@ factored_of c = record {
   steps = (form_of c.vars (c.vars + 1) c.cubes).steps;
   root = (form_of c.vars (c.vars + 1) c.cubes).root;
 }
+
+-- ---- what the call does to a recipe
+-- what pushing the steps of x onto a recipe does, where memory may run out: where it is done they are added, and the answer
+-- is the literal that reads them; it is refused as full only where 128 are passed
+pub record Forms (old new : RecipeValue) (answer : Result Lit FactorError) (x : Laid) : Type 0 where
+  pub fits : IsOk answer → length old.steps + length x.steps ≤ 128
+  pub full : answer ≡ Err Full → 128 < length old.steps + length x.steps
+  pub steps : OnOk answer (new ≡ record old { steps = old.steps ++ x.steps })
+  pub root : IfOk answer (λ l. l ≡ x.root)
+  pub inside : IfOk answer (λ l. place l < next_place new)

@@ -14,7 +14,7 @@ without i c = record { care = with_bit c.care i false; value = with_bit c.value 
 pub record Leaves (n : ℕ) (upper : Rows) (c : Cube) : Type 0 where
   pub row_at : ℕ
   pub inside : row_at < 2 ^ n
-  pub holds : IsTrue (holds n c row_at)
+  pub covered : IsTrue (holds n c row_at)
   pub off : row upper row_at ≡ false
 
 -- a prime implicant of a function of n variables: the function is true wherever the cube holds, and that is so of none of
@@ -28,5 +28,5 @@ pub record IsNeeded (n : ℕ) (lower : Rows) (cs : List Cube) (c : Cube) : Type 
   pub row_at : ℕ
   pub inside : row_at < 2 ^ n
   pub due : IsTrue (row lower row_at)
-  pub holds : IsTrue (holds n c row_at)
+  pub covered : IsTrue (holds n c row_at)
   pub alone : count_by (λ d. holds n d row_at) cs ≡ 1

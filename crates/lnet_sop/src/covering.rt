@@ -1,6 +1,6 @@
 //! The irredundant sum of products between two bounds.
 
-ghost use Rattle.std.specs.Prelude.{◌≡◌, ◌≤◌, ◌<◌, ◌+◌, ◌-◌, ◌*◌, ◌^◌, ℕ, map, ◌++◌, true, false, IfOk, OnOk, IsTrue, All, ◌&&◌};
+ghost use Rattle.std.specs.Prelude.{◌≡◌, ◌≤◌, ◌<◌, ◌+◌, ◌-◌, ◌*◌, ◌^◌, ℕ, map, ◌++◌, true, false, IfOk, OnOk, IsTrue, All, ◌&&◌, ◌||◌, ◌==◌};
 ghost use Rattle.lnet_tables.specs.Bits.{row as row_of, and_rows, bit_of, equal_rows, by_rows};
 ghost use Rattle.lnet_tables.specs.Shannon.{is_constant as constant_is};
 ghost use Rattle.lnet_sop.specs.Covers.{covers, union_rows};
@@ -37,6 +37,10 @@ pub fn isop(alloc: Global, lower: Table, upper: Table) -> Result<Cover, AllocErr
     requires vars { lower.vars ≡ upper.vars }
     requires implies { (r : ℕ) → r < 2 ^ lower.vars → IsTrue (row_of lower r) → IsTrue (row_of upper r) }
     ensures cubes { IfOk result (λ c. c ≡ isop_of lower upper) }
+    ensures due { IfOk result (λ c. (r : ℕ) → r < 2 ^ lower.vars → IsTrue (row_of lower r) → IsTrue (covers c.vars c.cubes r)) }
+    ensures within { IfOk result (λ c. (r : ℕ) → r < 2 ^ lower.vars → IsTrue (covers c.vars c.cubes r) → IsTrue (row_of upper r)) }
+    ensures prime { IfOk result (λ c. All (IsPrime c.vars upper) c.cubes) }
+    ensures irredundant { IfOk result (λ c. All (IsNeeded c.vars lower c.cubes) c.cubes) }
 {
     let vars = lower.vars();
     let mut cubes = Vec::new(alloc);
@@ -62,7 +66,7 @@ fn lay(
     if is_constant(&lower, false) {
         return Ok(Table::constant(vars, false));
     }
-    if vars == 0 || is_constant(&upper, true) {
+    if is_whole(&upper) {
         cubes.push(context)?;
         return Ok(Table::constant(vars, true));
     }
@@ -70,7 +74,7 @@ fn lay(
     let high = half(lower, true);
     let under = half(upper, false);
     let over = half(upper, true);
-    if low == high && under == over {
+    if are_same(&low, &high, &under, &over) {
         let table = lay(cubes, context, low, under)?;
         return Ok(table.expand(vars));
     }
@@ -79,6 +83,21 @@ fn lay(
     let left = or(minus(low, if_false), minus(high, if_true));
     let for_both = lay(cubes, context, left, under.and(over))?;
     Ok(joined(or(if_false, for_both), or(if_true, for_both)))
+}
+
+/// Whether an upper bound of a function that isn't false is covered by the cube without literals: it is true, which it is
+/// where it has no variable.
+fn is_whole(upper: &Table) -> bool
+    ensures { result ≡ (upper.now.vars == 0 || constant_is upper.now true) }
+{
+    upper.vars() == 0 || is_constant(upper, true)
+}
+
+/// Whether neither bound depends on the last variable, given their halves.
+fn are_same(low: &Table, high: &Table, under: &Table, over: &Table) -> bool
+    ensures { result ≡ (equal_rows low.now high.now && equal_rows under.now over.now) }
+{
+    low == high && under == over
 }
 
 /// Whether all rows of the table are `value`.
@@ -91,7 +110,8 @@ fn is_constant(table: &Table, value: bool) -> bool
 /// The function of the other variables where the last variable is `value`.
 fn half(table: Table, value: bool) -> Table
     requires { 0 < table.vars }
-    ensures { result ≡ half_of table (table.vars - 1) value }
+    ensures rows { result ≡ half_of table (table.vars - 1) value }
+    ensures vars { result.vars ≡ table.vars - 1 }
 {
     let last = table.vars() - 1;
     Table::from_words(last, table.cofactor(last, value).words())
@@ -114,7 +134,8 @@ fn joined(low: Table, high: Table) -> Table
 /// The rows of `a` that aren't rows of `b`.
 fn minus(a: Table, b: Table) -> Table
     requires { a.vars ≡ b.vars }
-    ensures { result ≡ minus_rows a b }
+    ensures rows { result ≡ minus_rows a b }
+    ensures vars { result.vars ≡ a.vars }
 {
     a.and(b.not())
 }
@@ -122,7 +143,8 @@ fn minus(a: Table, b: Table) -> Table
 /// The rows of `a` and those of `b`.
 fn or(a: Table, b: Table) -> Table
     requires { a.vars ≡ b.vars }
-    ensures { result ≡ or_rows a b }
+    ensures rows { result ≡ or_rows a b }
+    ensures vars { result.vars ≡ a.vars }
 {
     a.not().and(b.not()).not()
 }

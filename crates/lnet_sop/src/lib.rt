@@ -4,6 +4,8 @@
 mod cover;
 mod covering;
 mod factoring;
+#[cfg(test)]
+mod tests;
 
 pub use cover::{Cover, Cube};
 pub use covering::isop;

@@ -1,0 +1,1 @@
+use Rattle.lnet_sop.proofs.factoring.remainder.Goals as goal

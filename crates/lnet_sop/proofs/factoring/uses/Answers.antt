@@ -1,0 +1,1 @@
+use Rattle.lnet_sop.proofs.factoring.uses.Goals as goal

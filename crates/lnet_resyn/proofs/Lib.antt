@@ -4,3 +4,4 @@ pub mod Turns
 pub mod Proposals
 pub mod Columns
 pub mod MajorityMeans
+pub mod Classing

@@ -12,3 +12,18 @@ pub enum Proposal {
     /// Memory ran out.
     NoMemory,
 }
+
+/// By which procedure a stored closure answers.
+#[derive(Clone, Copy, Debug, PartialEq, Eq)]
+pub enum Law {
+    /// As `shannon_proposal`.
+    Shannon,
+    /// As `npn_proposal`.
+    Npn,
+    /// As `majority_proposal`.
+    Majority,
+    /// As `factor_proposal`.
+    Factor,
+    /// As the closure likes.
+    Foreign,
+}

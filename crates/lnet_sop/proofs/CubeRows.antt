@@ -75,7 +75,7 @@ holds_like zero c d r s h = refl
 holds_like (suc n) c d r s h =
     ap (λ x. x && agrees c r n) (holds_like n c d r s (λ i lt. h i (omega arith))) ∙ ap (λ x. holds n d s && x) (h n (omega arith))
 
-holds_more : (n : ℕ) (c : Cube) (r : ℕ) → holds (suc n) c r ≡ (holds n c r && agrees c r n)
+pub holds_more : (n : ℕ) (c : Cube) (r : ℕ) → holds (suc n) c r ≡ (holds n c r && agrees c r n)
 unfolding holds
 holds_more n c r = refl
 

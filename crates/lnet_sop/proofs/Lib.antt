@@ -6,3 +6,4 @@ pub mod Laws
 pub mod Cleared
 pub mod Pushing
 pub mod Factors
+pub mod FormMeans

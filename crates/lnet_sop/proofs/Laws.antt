@@ -513,3 +513,9 @@ isop_due n l u cs law e r lt = law.due r (subst (λ (k : ℕ). r < 2 ^ k) (sym e
 
 pub isop_within : (n : ℕ) (l u : Rows) (cs : List Cube) → Lawful n l u cs → n ≡ l.vars → (r : ℕ) → r < 2 ^ l.vars → covers n cs r ≡ true → row u r ≡ true
 isop_within n l u cs law e r lt = within n u cs law.primes r (subst (λ (k : ℕ). r < 2 ^ k) (sym e) lt)
+
+-- what is true of both of two is true of the second
+pub both_imply : (a b c : Rows) → a.vars ≡ b.vars → c ≡ and_rows a b → (r : ℕ) → r < 2 ^ c.vars → row c r ≡ true → row b r ≡ true
+both_imply a b c e h r lt t =
+    let less : r < 2 ^ a.vars = subst (λ (k : ℕ). r < 2 ^ k) (ap (λ (x : Rows). x.vars) h) lt in
+    (and_parts (row a r) (row b r) (sym (row_inside a.vars (λ r. row a r && row b r) r less) ∙ sym (ap (λ (x : Rows). row x r) h) ∙ t)).1

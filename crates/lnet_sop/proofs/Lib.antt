@@ -7,3 +7,4 @@ pub mod Cleared
 pub mod Pushing
 pub mod Factors
 pub mod FormMeans
+pub mod Examples

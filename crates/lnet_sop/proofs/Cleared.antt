@@ -1,6 +1,6 @@
 -- The bits of a number with one of them cleared, and cubes without one of their literals at a row.
-use Rattle.std.proofs.Common.{◌≡◌, ◌≢◌, ℕ, zero, suc, ◌+◌, ◌-◌, ◌*◌, ◌/◌, ◌%◌, ◌^◌, ◌<◌, ◌≤◌, Bool, true, false, cond, refl, sym, ◌∙◌, ap, subst, arith, ◌==◌, inl, inr, add-mul}
-use Rattle.std.specs.Prelude.{◌&&◌, IsTrue}
+use Rattle.std.proofs.Common.{◌≡◌, ℕ, zero, suc, ◌+◌, ◌-◌, ◌*◌, ◌/◌, ◌%◌, ◌^◌, ◌<◌, ◌≤◌, Bool, true, false, cond, refl, sym, ◌∙◌, ap, subst, arith, ◌==◌, inl, inr, add-mul}
+use Rattle.std.specs.Prelude.{◌&&◌}
 use Rattle.std.specs.Int.{bit_at}
 use mathlib.Core.Bool.{beq}
 use Rattle.std.proofs.lemmas.Nat.{div-add-mod', mod_below, pow_pos}
@@ -104,10 +104,10 @@ holds_without (suc n) i c r lt s =
           let same : n ≡ i = omega arith in
           subst (λ (k : ℕ). is_set c.care k ≡ true → holds (suc n) c r ≡ (holds (suc n) (without k c) r && beq (is_set c.value k) (is_set r k))) same
           (λ t.
-              let off : agrees (without n c) r n ≡ true = ap (λ b. cond b (beq (is_set (with_bit c.value n false) n) (is_set r n)) true) (set_cleared c.care n) in
-              let on : agrees c r n ≡ beq (is_set c.value n) (is_set r n) = ap (λ b. cond b (beq (is_set c.value n) (is_set r n)) true) t in
-              holds_more n c r ∙ ap (λ b. holds n c r && b) on
-              ∙ ap (λ b. b && beq (is_set c.value n) (is_set r n)) (holds_like n c (without n c) r r (λ j l. agrees_kept c n r j (λ e. absurd (omega arith)))
-              ∙ sym (holds_more n (without n c) r ∙ ap (λ b. holds n (without n c) r && b) off ∙ and_true (holds n (without n c) r))))
+          let off : agrees (without n c) r n ≡ true = ap (λ b. cond b (beq (is_set (with_bit c.value n false) n) (is_set r n)) true) (set_cleared c.care n) in
+          let on : agrees c r n ≡ beq (is_set c.value n) (is_set r n) = ap (λ b. cond b (beq (is_set c.value n) (is_set r n)) true) t in
+          holds_more n c r ∙ ap (λ b. holds n c r && b) on
+          ∙ ap (λ b. b && beq (is_set c.value n) (is_set r n)) (holds_like n c (without n c) r r (λ j l. agrees_kept c n r j (λ e. absurd (omega arith)))
+          ∙ sym (holds_more n (without n c) r ∙ ap (λ b. holds n (without n c) r && b) off ∙ and_true (holds n (without n c) r))))
           s
     ]

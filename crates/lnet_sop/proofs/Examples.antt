@@ -1,10 +1,7 @@
 -- The definitions against worked rows, and the plain cases of a factored form.
-use Rattle.std.proofs.Common.{◌≡◌, ℕ, zero, suc, ◌+◌, ◌*◌, ◌<◌, ◌≤◌, Bool, true, false, cond, List, [], ◌∷◌, ◌++◌, length, refl, sym, ◌∙◌, ap, subst, arith, append-nil, ◌==◌}
-use Rattle.std.specs.List.{list_any}
+use Rattle.std.proofs.Common.{◌≡◌, ℕ, true, false, [], ◌∷◌, refl}
 use Rattle.lnet_tables.specs.Bits.{Rows, by_rows, is_set, tabulate, with_bit}
-use Rattle.lnet_tables.specs.declared.step.Lit.{Lit}
-use Rattle.lnet_tables.specs.declared.step.Step.{Step}
-use Rattle.lnet_tables.specs.Shannon.{Laid, given, after, other}
+use Rattle.lnet_tables.specs.Shannon.{other}
 use Rattle.lnet_sop.specs.declared.cover.Cube.{Cube}
 use Rattle.lnet_sop.specs.Covers.{holds}
 use Rattle.lnet_sop.specs.Isop.{cubes_of}

@@ -1,13 +1,13 @@
 -- Factoring: the literal that stands in most cubes, the quotient and the rest, and that the recursion ends.
-use Rattle.std.proofs.Common.{◌≡◌, ℕ, zero, suc, ◌+◌, ◌-◌, ◌*◌, ◌/◌, ◌%◌, ◌^◌, ◌<◌, ◌≤◌, Bool, true, false, cond, List, [], ◌∷◌, ◌++◌, map, length, refl, sym, ◌∙◌, ap, subst, arith, inl, inr, get_or, ◌==◌, nat_lt, nat_le, not}
-use Rattle.std.specs.Prelude.{◌&&◌, All}
-use Rattle.std.specs.List.{list_any, count_by, filter, sum_by}
+use Rattle.std.proofs.Common.{◌≡◌, ℕ, zero, suc, ◌+◌, ◌*◌, ◌%◌, ◌<◌, ◌≤◌, Bool, true, false, cond, List, [], ◌∷◌, map, length, refl, sym, ◌∙◌, ap, subst, arith, inl, inr, ◌==◌, nat_lt, nat_le, not}
+use Rattle.std.specs.Prelude.{All}
+use Rattle.std.specs.List.{list_any, filter, sum_by}
 use mathlib.Core.Bool.{beq}
-use Rattle.std.proofs.lemmas.Bool.{false≢true, cases_lt, ltb-true, lt-ltb, le-ltb, le-leb, lt-leb, leb-false, and_parts}
+use Rattle.std.proofs.lemmas.Bool.{false≢true, cases_lt, lt-ltb, le-ltb, le-leb, lt-leb, leb-false, and_parts}
 use Rattle.std.proofs.lemmas.List.Elements.{All-head, All-tail, All-map, All-weaker, All-filter, filter_passes}
 use Rattle.std.proofs.lemmas.List.Filters.{sum_by-filter_both}
 use Rattle.std.proofs.lemmas.List.Sums.{sum_by-cons, length-filter}
-use Rattle.lnet_tables.specs.Bits.{is_set, bit_of, with_bit}
+use Rattle.lnet_tables.specs.Bits.{is_set}
 use Rattle.lnet_tables.specs.declared.step.Lit.{Lit}
 use Rattle.lnet_tables.specs.Recipes.{place}
 use Rattle.lnet_tables.specs.Shannon.{Laid, given, after, or_at}

@@ -1,16 +1,14 @@
 -- The factored form's root means the cover.
-use Rattle.std.proofs.Common.{◌≡◌, ℕ, zero, suc, ◌+◌, ◌-◌, ◌*◌, ◌/◌, ◌%◌, ◌^◌, ◌<◌, ◌≤◌, Bool, true, false, not, cond, List, [], ◌∷◌, ◌++◌, map, take, length, refl, sym, ◌∙◌, ap, subst, arith, append_assoc, length-append, append-nil, add-one, add-zero, inl, inr, get_or, ◌==◌, ◌||◌, nat_le, nat_lt}
+use Rattle.std.proofs.Common.{◌≡◌, ℕ, zero, suc, ◌+◌, ◌*◌, ◌%◌, ◌^◌, ◌<◌, ◌≤◌, Bool, true, false, not, cond, List, [], ◌∷◌, map, take, length, refl, sym, ◌∙◌, ap, subst, arith, add-one, add-zero, inl, inr, get_or, ◌==◌, ◌||◌, nat_le, nat_lt}
 use Rattle.std.specs.Prelude.{◌&&◌, All}
 use Rattle.std.specs.List.{list_any, filter, sum_by}
 use mathlib.Core.Bool.{beq}
-use Rattle.std.proofs.lemmas.Bool.{false≢true, cases_lt, eqb-true, leb-false, and_parts, or_cases, or_left, or_right, and_from}
+use Rattle.std.proofs.lemmas.Bool.{false≢true, eqb-true, leb-false, and_parts, or_cases, or_left, or_right, and_from}
 use Rattle.std.proofs.lemmas.List.{take_all}
 use Rattle.std.proofs.lemmas.List.Folds.{list_any_more}
-use Rattle.std.proofs.lemmas.List.Elements.{All-head, All-tail}
-use Rattle.lnet_tables.specs.Bits.{Rows, is_set, bit_of, by_rows}
+use Rattle.lnet_tables.specs.Bits.{is_set, bit_of}
 use Rattle.lnet_tables.specs.declared.step.Lit.{Lit}
-use Rattle.lnet_tables.specs.declared.step.Step.{Step}
-use Rattle.lnet_tables.specs.Recipes.{RecipeValue, place, next_place, sim}
+use Rattle.lnet_tables.specs.Recipes.{RecipeValue, next_place, sim}
 use Rattle.lnet_tables.specs.Means.{Means}
 use Rattle.lnet_tables.specs.Shannon.{Laid, given, after, plain, complemented, other, and_at, or_at}
 use Rattle.lnet_tables.proofs.ShannonSteps.{other_plain}
@@ -22,9 +20,8 @@ use Rattle.lnet_sop.specs.Covers.{CoverValue, agrees, holds, covers, cover_rows,
 use Rattle.lnet_sop.specs.Isop.{universe}
 use Rattle.lnet_sop.specs.Irredundant.{without}
 use Rattle.lnet_sop.specs.Factored.{literal, variable_of, stands_in, literal_of, uses, most_common, quotient, remainder, is_universe, product_at, sum_at, multiple_at, literal_at, conjunction, cube_at, disjunction, with_rest, divided, by_literal, by_universe, form_of, factored_of}
-use Rattle.lnet_sop.proofs.CubeRows.{and_true, holds_more, holds_like, set_none}
+use Rattle.lnet_sop.proofs.CubeRows.{and_true, set_none}
 use Rattle.lnet_sop.proofs.Cleared.{holds_without}
-use Rattle.lnet_sop.proofs.Pushing.{conjunction_more, disjunction_more}
 use Rattle.lnet_sop.proofs.Factors.{form_turn, quotient_each, remainder_each, quotient_less, remainder_less, literal_inside}
 
 -- ---- values

@@ -1,8 +1,7 @@
 -- What pushing the steps of forms does: one part after the other, and where a part is refused.
-use Rattle.std.proofs.Common.{◌≡◌, ℕ, zero, suc, ◌+◌, ◌-◌, ◌*◌, ◌/◌, ◌%◌, ◌<◌, ◌≤◌, Bool, true, false, cond, List, [], ◌∷◌, ◌++◌, length, refl, sym, ◌∙◌, ap, subst, arith, append_assoc, length-append, append-nil, Result, Ok, Err, IsErr, IsOk, OnOk, IfOk, inl, inr, get_or, ◌==◌}
+use Rattle.std.proofs.Common.{◌≡◌, ℕ, zero, suc, ◌+◌, ◌-◌, ◌<◌, ◌≤◌, true, false, List, [], ◌∷◌, ◌++◌, length, refl, sym, ◌∙◌, ap, subst, arith, append_assoc, length-append, Result, Ok, Err, IsErr, inl, inr, get_or, ◌==◌}
 use Rattle.std.specs.Prelude.{IsErrAnd}
 use Rattle.std.proofs.lemmas.Bool.{false≢true, cases_lt, eqb-true, eqb-false}
-use Rattle.lnet_tables.specs.Bits.{is_set}
 use Rattle.lnet_tables.specs.declared.step.Lit.{Lit}
 use Rattle.lnet_tables.specs.declared.step.Step.{Step}
 use Rattle.lnet_tables.specs.declared.recipe.RecipeFull.{RecipeFull}

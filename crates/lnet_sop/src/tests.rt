@@ -77,7 +77,10 @@ fn covers_are_those_worked_out(rt: HostRuntime) -> Result<(), Fail> {
     let majority = cubes_between(rt.alloc(), 3, 0xe8, 0xe8)?;
     assert_eq!(rt; majority.as_slice(), [(6, 6), (5, 5), (3, 3)].as_slice());
     let parity = cubes_between(rt.alloc(), 3, 0x96, 0x96)?;
-    assert_eq!(rt; parity.as_slice(), [(7, 1), (7, 2), (7, 4), (7, 7)].as_slice());
+    assert_eq!(rt;
+        parity.as_slice(),
+        [(7, 1), (7, 2), (7, 4), (7, 7)].as_slice()
+    );
     let choice = cubes_between(rt.alloc(), 4, 0xcaca, 0xcaca)?;
     assert_eq!(rt; choice.as_slice(), [(5, 1), (6, 6)].as_slice());
     let complements = cubes_between(rt.alloc(), 4, 0x0357, 0x0357)?;
@@ -102,16 +105,34 @@ fn bounds_apart_leave_a_choice(rt: HostRuntime) -> Result<(), Fail> {
 #[test]
 fn forms_are_those_worked_out(rt: HostRuntime) -> Result<(), Fail> {
     let majority = form(rt.alloc(), 3, 0xe8)?;
-    assert_eq!(rt; majority.as_slice(), [(7, 5), (2, 9), (4, 6), (11, 13), (15, 15)].as_slice());
+    assert_eq!(rt;
+        majority.as_slice(),
+        [(7, 5), (2, 9), (4, 6), (11, 13), (15, 15)].as_slice()
+    );
     let several = form(rt.alloc(), 4, 0xeee8)?;
     assert_eq!(rt;
         several.as_slice(),
-        [(9, 7), (10, 5), (2, 13), (9, 7), (4, 17), (15, 19), (21, 21)].as_slice()
+        [
+            (9, 7),
+            (10, 5),
+            (2, 13),
+            (9, 7),
+            (4, 17),
+            (15, 19),
+            (21, 21)
+        ]
+        .as_slice()
     );
     let mixed = form(rt.alloc(), 4, 0xcfca)?;
-    assert_eq!(rt; mixed.as_slice(), [(9, 3), (7, 11), (4, 6), (13, 15), (17, 17)].as_slice());
+    assert_eq!(rt;
+        mixed.as_slice(),
+        [(9, 3), (7, 11), (4, 6), (13, 15), (17, 17)].as_slice()
+    );
     let product = form(rt.alloc(), 4, 0x8)?;
-    assert_eq!(rt; product.as_slice(), [(2, 4), (10, 7), (12, 9), (14, 14)].as_slice());
+    assert_eq!(rt;
+        product.as_slice(),
+        [(2, 4), (10, 7), (12, 9), (14, 14)].as_slice()
+    );
     let never = form(rt.alloc(), 3, 0)?;
     assert_eq!(rt; never.as_slice(), [(0, 0)].as_slice());
     Ok(())

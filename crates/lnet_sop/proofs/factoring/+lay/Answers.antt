@@ -1,15 +1,15 @@
-use Rattle.std.proofs.Common.{◌≡◌, ◌≤◌, ◌<◌, ◌+◌, ◌-◌, ◌*◌, ◌/◌, ℕ, Bool, true, false, List, [], length, refl, sym, ap, ◌∙◌, subst, arith, Ok, Err, Result}
+use Rattle.std.proofs.Common.{◌≡◌, ◌<◌, ◌*◌, ℕ, List, [], length, refl, sym, ap, ◌∙◌, subst, arith, Ok, Err}
 use Rattle.std.specs.Prelude.{All}
-use Rattle.std.specs.List.{list_any, sum_by}
+use Rattle.std.specs.List.{sum_by}
 use Rattle.lnet_tables.specs.declared.step.Lit.{Lit}
-use Rattle.lnet_tables.specs.Recipes.{RecipeValue, place, next_place}
-use Rattle.lnet_tables.specs.Shannon.{Laid, Lays, given, after, or_at}
+use Rattle.lnet_tables.specs.Recipes.{RecipeValue, next_place}
+use Rattle.lnet_tables.specs.Shannon.{Laid, or_at}
 use Rattle.lnet_tables.proofs.ShannonSteps.{lays_given}
 use Rattle.lnet_sop.specs.declared.cover.Cube.{Cube}
 use Rattle.lnet_sop.specs.declared.factoring.FactorError.TheVariants.{Full}
 use Rattle.lnet_sop.specs.Covers.{IsCube}
-use Rattle.lnet_sop.specs.Factored.{Forms, form_of, is_universe, most_common, uses, quotient, remainder, multiple_at, with_rest, divided, disjunction}
-use Rattle.lnet_sop.proofs.Pushing.{forms_lays, forms_full, forms_after, forms_refused, error_is, forms_leaves, form_short, division, product_refused, quotient_refused, rest_none, rest_some, rest_refused, rest_as, none_left, some_left, lays_leaves, lays_short}
+use Rattle.lnet_sop.specs.Factored.{Forms, form_of, most_common, uses, quotient, remainder, multiple_at, divided, disjunction}
+use Rattle.lnet_sop.proofs.Pushing.{forms_lays, forms_full, error_is, forms_leaves, form_short, division, product_refused, quotient_refused, rest_none, rest_some, rest_refused, rest_as, none_left, some_left, lays_leaves, lays_short}
 use Rattle.lnet_sop.proofs.Factors.{form_true, form_apart, form_divided, quotient_each, remainder_each, quotient_less, remainder_less, literal_inside}
 use Rattle.lnet_sop.proofs.factoring.+lay.Goals as goal
 

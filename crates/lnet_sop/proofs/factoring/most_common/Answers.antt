@@ -1,4 +1,4 @@
-use Rattle.std.proofs.Common.{◌≡◌, ◌+◌, ◌≤◌, ◌<◌, ◌*◌, ℕ, suc, refl, sym, ap, ◌∙◌, arith, add-one, lit≤, lit<, List}
+use Rattle.std.proofs.Common.{◌≡◌, ◌+◌, ℕ, refl, sym, ap, ◌∙◌, arith, lit≤, lit<}
 use Rattle.lnet_tables.specs.declared.step.Lit.{Lit}
 use Rattle.lnet_sop.specs.Factored.{most_common, uses}
 use Rattle.lnet_sop.proofs.Factors.{most_common_later, most_common_stays}

@@ -1,13 +1,13 @@
 -- Cubes at the rows of one variable more.
-use Rattle.std.proofs.Common.{◌≡◌, ℕ, zero, suc, ◌+◌, ◌-◌, ◌*◌, ◌/◌, ◌%◌, ◌^◌, ◌<◌, ◌≤◌, Bool, true, false, cond, List, [], ◌∷◌, ◌++◌, map, length, refl, sym, ◌∙◌, ap, subst, arith, ◌==◌, inl, inr, lit<, get_or, ◌||◌}
-use Rattle.std.specs.Prelude.{◌&&◌, IsTrue, All}
+use Rattle.std.proofs.Common.{◌≡◌, ℕ, zero, suc, ◌+◌, ◌-◌, ◌*◌, ◌%◌, ◌^◌, ◌<◌, ◌≤◌, Bool, true, false, cond, List, [], ◌∷◌, ◌++◌, map, refl, sym, ◌∙◌, ap, subst, arith, ◌==◌, inl, inr, get_or, ◌||◌}
+use Rattle.std.specs.Prelude.{◌&&◌, All}
 use Rattle.std.specs.List.{list_any, count_by}
 use Rattle.std.specs.Int.{bit_at}
 use mathlib.Core.Bool.{beq}
 use Rattle.std.proofs.lemmas.Nat.{pow_pos, pow-add}
-use Rattle.std.proofs.lemmas.Nat.Bits.{bit_at_cat_low, bit_at_cat_high, bit_at_above, bit_at_lowest, bit_at-lt, bit_at-zero}
-use Rattle.std.proofs.lemmas.Bool.{cases_lt, false≢true, and_right, cases_Bool}
-use Rattle.std.proofs.lemmas.List.Elements.{All-head, All-tail, All-cons, All-nil, All-append, All-map, All-weaker}
+use Rattle.std.proofs.lemmas.Nat.Bits.{bit_at_cat_low, bit_at_cat_high, bit_at_above, bit_at_lowest, bit_at-zero}
+use Rattle.std.proofs.lemmas.Bool.{cases_lt, false≢true, and_right}
+use Rattle.std.proofs.lemmas.List.Elements.{All-head, All-tail, All-weaker}
 use Rattle.std.proofs.lemmas.List.Folds.{list_any-append}
 use Rattle.std.proofs.lemmas.List.Sums.{sum_by-cons}
 use Rattle.lnet_tables.specs.Bits.{is_set, bit_of}
@@ -75,7 +75,7 @@ holds_like zero c d r s h = refl
 holds_like (suc n) c d r s h =
     ap (λ x. x && agrees c r n) (holds_like n c d r s (λ i lt. h i (omega arith))) ∙ ap (λ x. holds n d s && x) (h n (omega arith))
 
-holds_more : (n : ℕ) (c : Cube) (r : ℕ) → holds (suc n) c r ≡ (holds n c r && agrees c r n)
+pub holds_more : (n : ℕ) (c : Cube) (r : ℕ) → holds (suc n) c r ≡ (holds n c r && agrees c r n)
 unfolding holds
 holds_more n c r = refl
 

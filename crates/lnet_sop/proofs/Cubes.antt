@@ -1,5 +1,5 @@
 -- The recursion of the irredundant sum of products: which case holds, and what each makes of the union of its cubes.
-use Rattle.std.proofs.Common.{◌≡◌, ℕ, zero, suc, ◌+◌, ◌-◌, ◌*◌, ◌/◌, ◌%◌, ◌^◌, ◌<◌, ◌≤◌, Bool, true, false, cond, List, [], ◌∷◌, ◌++◌, map, length, refl, sym, ◌∙◌, ap, subst, arith, ◌==◌, ◌||◌, append_assoc, length-append, inl, inr}
+use Rattle.std.proofs.Common.{◌≡◌, ℕ, zero, suc, ◌+◌, ◌-◌, ◌*◌, ◌%◌, ◌^◌, ◌<◌, ◌≤◌, Bool, true, false, cond, List, [], ◌∷◌, ◌++◌, map, length, refl, sym, ◌∙◌, ap, subst, arith, ◌==◌, ◌||◌, append_assoc, length-append, inl, inr}
 use Rattle.std.specs.Prelude.{◌&&◌, All}
 use Rattle.std.proofs.lemmas.Bool.{false≢true, ne_eqb, cases_lt}
 use Rattle.std.proofs.lemmas.Nat.{mod-mul-add, pow-add, pow_below}
@@ -10,9 +10,9 @@ use Rattle.lnet_tables.specs.Inverse.{row_inside}
 use Rattle.lnet_tables.specs.Shannon.{is_constant}
 use Rattle.lnet_tables.proofs.Ops.{same_rows}
 use Rattle.lnet_sop.specs.declared.cover.Cube.{Cube}
-use Rattle.lnet_sop.specs.Covers.{CoverValue, IsCover, holds, covers, union_rows, IsCube}
+use Rattle.lnet_sop.specs.Covers.{CoverValue, IsCover, covers, union_rows, IsCube}
 use Rattle.lnet_sop.specs.Isop.{universe, with_literal, in_context, half, or_rows, minus_rows, joined_rows, by_halves, by_last, by_bounds, cubes_of}
-use Rattle.lnet_sop.proofs.CubeRows.{two_more, set_here, row_fits, by_value, holds_universe, universe_cube, free_cube, with_cube, covers_free, covers_step}
+use Rattle.lnet_sop.proofs.CubeRows.{set_here, by_value, holds_universe, universe_cube, free_cube, with_cube, covers_free, covers_step}
 
 -- ---- which case
 pub cubes_none : (n : ℕ) (lower upper : Rows) → is_constant lower false ≡ true → cubes_of n lower upper ≡ []
@@ -32,7 +32,7 @@ cubes_whole (suc n) lower upper h e =
 
 pub cubes_later : (n m : ℕ) (lower upper : Rows) → is_constant lower false ≡ false → (n == 0 || is_constant upper true) ≡ false → m ≡ n - 1
     → cubes_of n lower upper ≡ by_last (equal_rows (half lower m false) (half lower m true) && equal_rows (half upper m false) (half upper m true))
-        (λ l u. cubes_of m l u) m (half lower m false) (half lower m true) (half upper m false) (half upper m true)
+    (λ l u. cubes_of m l u) m (half lower m false) (half lower m true) (half upper m false) (half upper m true)
 unfolding cubes_of
 cubes_later zero m lower upper h e d = absurd (false≢true (sym e))
 cubes_later (suc n) m lower upper h e d =
@@ -40,7 +40,7 @@ cubes_later (suc n) m lower upper h e d =
     ap (λ t. by_bounds t (is_constant upper true) (λ l u. cubes_of n l u) n (half lower n false) (half lower n true) (half upper n false) (half upper n true)) h
     ∙ ap (λ t. by_bounds false t (λ l u. cubes_of n l u) n (half lower n false) (half lower n true) (half upper n false) (half upper n true)) (sym (never_none n (is_constant upper true)) ∙ e)
     ∙ ap (λ (k : ℕ). by_last (equal_rows (half lower k false) (half lower k true) && equal_rows (half upper k false) (half upper k true))
-        (λ l u. cubes_of k l u) k (half lower k false) (half lower k true) (half upper k false) (half upper k true)) same
+    (λ l u. cubes_of k l u) k (half lower k false) (half lower k true) (half upper k false) (half upper k true)) same
 
 -- the same, from what the code knows: the halves, and whether neither bound depends on the last variable
 pub cubes_passed : (n : ℕ) (lower upper low high under over : Rows) → is_constant lower false ≡ false → (n == 0 || is_constant upper true) ≡ false

@@ -1,11 +1,10 @@
 -- The irredundant sum of products lies between its bounds, its cubes are prime implicants of the upper bound, and each of
 -- them is needed.
-use Rattle.std.proofs.Common.{◌≡◌, ℕ, zero, suc, ◌+◌, ◌-◌, ◌*◌, ◌^◌, ◌<◌, ◌≤◌, Bool, true, false, not, cond, List, [], ◌∷◌, ◌++◌, map, length, refl, sym, ◌∙◌, ap, subst, arith, ◌||◌, inl, inr, get_or, ◌⊎◌, lit<}
+use Rattle.std.proofs.Common.{◌≡◌, ℕ, zero, suc, ◌+◌, ◌*◌, ◌^◌, ◌<◌, Bool, true, false, not, cond, List, [], ◌∷◌, ◌++◌, map, length, refl, sym, ◌∙◌, ap, subst, arith, ◌||◌, inl, inr, get_or, ◌⊎◌}
 use Rattle.std.specs.Prelude.{◌&&◌, All}
 use Rattle.std.specs.List.{list_any, count_by}
 use mathlib.Core.Bool.{beq}
-use Rattle.std.proofs.lemmas.Nat.{pow_pos}
-use Rattle.std.proofs.lemmas.Bool.{cases_lt, false≢true, or_cases, or_parts, and_parts, and_cases, and_from, and_left, cases_Bool, not-true, false_from_ne_true, or_left, or_right}
+use Rattle.std.proofs.lemmas.Bool.{cases_lt, false≢true, or_cases, or_parts, and_parts, and_cases, and_from, cases_Bool, not-true, false_from_ne_true, or_left, or_right}
 use Rattle.std.proofs.lemmas.List.Elements.{All-head, All-tail, All-cons, All-nil, All-append, All-map, All-weaker}
 use Rattle.std.proofs.lemmas.List.Sums.{sum_by-append}
 use Rattle.lnet_tables.specs.Bits.{Rows, row, by_rows, bit_of, is_set, equal_rows, and_rows, not_rows, constant_rows}
@@ -15,9 +14,9 @@ use Rattle.lnet_tables.proofs.Equal.{equal_rows_decides}
 use Rattle.lnet_tables.proofs.Rowwise.{rows_long, told_by_rows}
 use Rattle.lnet_sop.specs.declared.cover.Cube.{Cube}
 use Rattle.lnet_sop.specs.Covers.{holds, covers, union_rows, IsCube}
-use Rattle.lnet_sop.specs.Isop.{universe, with_literal, half, or_rows, minus_rows, by_halves, by_last, by_bounds, cubes_of}
+use Rattle.lnet_sop.specs.Isop.{universe, with_literal, half, or_rows, minus_rows, by_last, by_bounds, cubes_of}
 use Rattle.lnet_sop.specs.Irredundant.{without, Leaves, IsPrime, IsNeeded}
-use Rattle.lnet_sop.proofs.CubeRows.{set_low, set_here, set_above, set_none, row_fits, by_value, holds_universe, holds_free, holds_with, any_like, count_like, count_map, count_none, count_cons, covers_free, covers_step, and_true}
+use Rattle.lnet_sop.proofs.CubeRows.{set_low, set_above, set_none, row_fits, by_value, holds_universe, holds_free, holds_with, count_like, count_map, count_none, count_cons, covers_free, covers_step, and_true}
 use Rattle.lnet_sop.proofs.Cubes.{cubes_each}
 use Rattle.lnet_sop.proofs.Without.{cleared_le, without_with, without_last}
 
@@ -328,9 +327,9 @@ module _ (n : ℕ) (l u low high under over : Rows) (c0 c1 cd : List Cube) (h : 
       prime_free n u (get_or cd k d) (p.cubesd k d lt)
       (λ b x l e. both_true b x l (prime.implies x l e))
       (λ i l s.
-          let w : Leaves n (and_rows under over) (without i (get_or cd k d)) = prime.least i l s in
-          let v : (b : Bool) × (row u (bit_of b * 2 ^ n + w.row_at) ≡ false) = one_false w.row_at w.inside w.off in
-          (v.0, w.row_at, w.inside, w.covered, v.1))
+      let w : Leaves n (and_rows under over) (without i (get_or cd k d)) = prime.least i l s in
+      let v : (b : Bool) × (row u (bit_of b * 2 ^ n + w.row_at) ≡ false) = one_false w.row_at w.inside w.off in
+      (v.0, w.row_at, w.inside, w.covered, v.1))
 
   -- ---- the cubes are needed
   -- no cube of both halves holds where one of them is out of bounds
@@ -414,8 +413,8 @@ lawful_passed n l u low high under over cs h el eu each law = record {
       prime_free n u (get_or cs k d) (each k d lt)
       (λ b x l e. sym (upper_row b x l) ∙ prime.implies x l e)
       (λ i l s.
-          let w : Leaves n under (without i (get_or cs k d)) = prime.least i l s in
-          (false, w.row_at, w.inside, w.covered, sym (upper_row false w.row_at w.inside) ∙ w.off));
+      let w : Leaves n under (without i (get_or cs k d)) = prime.least i l s in
+      (false, w.row_at, w.inside, w.covered, sym (upper_row false w.row_at w.inside) ∙ w.off));
   needed = λ k d lt.
       let w : IsNeeded n low cs (get_or cs k d) = law.needed k d lt in
       let cube : IsCube n (get_or cs k d) = each k d lt in
@@ -513,3 +512,9 @@ isop_due n l u cs law e r lt = law.due r (subst (λ (k : ℕ). r < 2 ^ k) (sym e
 
 pub isop_within : (n : ℕ) (l u : Rows) (cs : List Cube) → Lawful n l u cs → n ≡ l.vars → (r : ℕ) → r < 2 ^ l.vars → covers n cs r ≡ true → row u r ≡ true
 isop_within n l u cs law e r lt = within n u cs law.primes r (subst (λ (k : ℕ). r < 2 ^ k) (sym e) lt)
+
+-- what is true of both of two is true of the second
+pub both_imply : (a b c : Rows) → a.vars ≡ b.vars → c ≡ and_rows a b → (r : ℕ) → r < 2 ^ c.vars → row c r ≡ true → row b r ≡ true
+both_imply a b c e h r lt t =
+    let less : r < 2 ^ a.vars = subst (λ (k : ℕ). r < 2 ^ k) (ap (λ (x : Rows). x.vars) h) lt in
+    (and_parts (row a r) (row b r) (sym (row_inside a.vars (λ r. row a r && row b r) r less) ∙ sym (ap (λ (x : Rows). row x r) h) ∙ t)).1

@@ -3,5 +3,8 @@ pub mod TableRows
 pub mod Cubes
 pub mod Without
 pub mod Laws
+pub mod Cleared
 pub mod Pushing
 pub mod Factors
+pub mod FormMeans
+pub mod Examples

@@ -1,7 +1,7 @@
 -- What pushing the steps of forms does: one part after the other, and where a part is refused.
-use Rattle.std.proofs.Common.{◌≡◌, ℕ, zero, suc, ◌+◌, ◌-◌, ◌*◌, ◌/◌, ◌%◌, ◌<◌, ◌≤◌, Bool, true, false, cond, List, [], ◌∷◌, ◌++◌, length, refl, sym, ◌∙◌, ap, subst, arith, append_assoc, length-append, append-nil, Result, Ok, Err, IsErr, IfErr, IsOk, OnOk, IfOk, inl, inr, get_or, ◌==◌}
-use Rattle.std.proofs.lemmas.Bool.{false≢true, cases_lt}
-use Rattle.lnet_tables.specs.Bits.{is_set}
+use Rattle.std.proofs.Common.{◌≡◌, ℕ, zero, suc, ◌+◌, ◌-◌, ◌<◌, ◌≤◌, true, false, List, [], ◌∷◌, ◌++◌, length, refl, sym, ◌∙◌, ap, subst, arith, append_assoc, length-append, Result, Ok, Err, IsErr, inl, inr, get_or, ◌==◌}
+use Rattle.std.specs.Prelude.{IsErrAnd}
+use Rattle.std.proofs.lemmas.Bool.{false≢true, cases_lt, eqb-true, eqb-false}
 use Rattle.lnet_tables.specs.declared.step.Lit.{Lit}
 use Rattle.lnet_tables.specs.declared.step.Step.{Step}
 use Rattle.lnet_tables.specs.declared.recipe.RecipeFull.{RecipeFull}
@@ -12,7 +12,7 @@ use Rattle.lnet_sop.specs.declared.cover.Cube.{Cube}
 use Rattle.lnet_sop.specs.declared.factoring.FactorError.{FactorError}
 use Rattle.lnet_sop.specs.declared.factoring.FactorError.TheVariants.{Full, NoMemory}
 use Rattle.lnet_sop.specs.Isop.{universe}
-use Rattle.lnet_sop.specs.Factored.{Forms, conjunction, literal_at, disjunction, cube_at}
+use Rattle.lnet_sop.specs.Factored.{Forms, conjunction, literal_at, disjunction, cube_at, quotient, remainder, multiple_at, with_rest, divided, form_of}
 
 -- ---- an or is an and
 pub and_of_others : (s t : RecipeValue) (r : Result Lit RecipeFull) (a b x y : Lit) → x ≡ other a → y ≡ other b → Lays s t r (and_at (next_place s) x y) → Lays s t r (and_at (next_place s) (other a) (other b))
@@ -185,6 +185,74 @@ pub forms_as : (s t : RecipeValue) (e : FactorError) (r : Result Lit FactorError
 forms_as s t e r x h f = subst (λ (q : Result Lit FactorError). Forms s t q x) (sym h) f
 
 -- an error that a `?` handed on
-pub error_is : (r : Result Lit FactorError) (e : FactorError) → IsErr r → IfErr r (λ f. f ≡ e) → r ≡ Err e
+pub error_is : (r : Result Lit FactorError) (e : FactorError) → IsErr r → IsErrAnd r (λ f. f ≡ e) → r ≡ Err e
 error_is (Ok a) e h k = absurd (false≢true h)
 error_is (Err f) e h k = ap Err k
+
+pub forms_leaves : (s t : RecipeValue) (a : Lit) (x : Laid) → Forms s t (Ok a) x → t.leaves ≡ s.leaves
+forms_leaves s t a x h = ap (λ (v : RecipeValue). v.leaves) h.steps
+
+pub form_short : (s t : RecipeValue) (a : Lit) (x : Laid) → Forms s t (Ok a) x → length t.steps ≤ 128
+form_short s t a x h = omega (arith, h.fits refl, ap length (ap (λ (v : RecipeValue). v.steps) h.steps) ∙ length-append s.steps x.steps)
+
+-- ---- a division
+-- f forms the quotient and the rest
+module _ (f : ℕ → List Cube → Laid) where
+  multiple_and_rest : (t u v : RecipeValue) (a b : Lit) (r : Result Lit FactorError) (l : Lit) (rest : List Cube)
+      → Forms t u (Ok b) (multiple_at (next_place t) l a) → Forms u v r (with_rest f (next_place u) b rest)
+      → Forms t v r (let m : Laid = multiple_at (next_place t) l a in after m (with_rest f (next_place t + length m.steps) m.root rest))
+  multiple_and_rest t u v a b r l rest first then = forms_after t u v b r (multiple_at (next_place t) l a) (λ p m. with_rest f p m rest) first then
+
+  pub division : (s t u v : RecipeValue) (a b : Lit) (r : Result Lit FactorError) (l : Lit) (cs : List Cube)
+      → Forms s t (Ok a) (f (next_place s) (quotient l cs)) → Forms t u (Ok b) (multiple_at (next_place t) l a) → Forms u v r (with_rest f (next_place u) b (remainder l cs))
+      → Forms s v r (divided f (next_place s) l cs)
+  division s t u v a b r l cs first second third =
+      forms_after s t v a r (f (next_place s) (quotient l cs)) (λ p q. let m : Laid = multiple_at p l q in after m (with_rest f (p + length m.steps) m.root (remainder l cs)))
+      first (multiple_and_rest t u v a b r l (remainder l cs) second third)
+
+  -- refused at the product
+  pub product_refused : (s t u : RecipeValue) (a : Lit) (e : RecipeFull) (r : Result Lit FactorError) (l : Lit) (cs : List Cube)
+      → Forms s t (Ok a) (f (next_place s) (quotient l cs)) → Lays t u (Err e) (multiple_at (next_place t) l a) → r ≡ Err Full → Forms s u r (divided f (next_place s) l cs)
+  product_refused s t u a e r l cs first second h =
+      forms_after s t u a r (f (next_place s) (quotient l cs)) (λ p q. let m : Laid = multiple_at p l q in after m (with_rest f (p + length m.steps) m.root (remainder l cs))) first
+      (let m : Laid = multiple_at (next_place t) l a in
+      forms_refused t u Full r m (with_rest f (next_place t + length m.steps) m.root (remainder l cs)) h (forms_full t u e (Err Full) m refl second))
+
+  -- refused at the quotient
+  pub quotient_refused : (s t : RecipeValue) (e : FactorError) (r : Result Lit FactorError) (l : Lit) (cs : List Cube)
+      → Forms s t (Err e) (f (next_place s) (quotient l cs)) → r ≡ Err e → Forms s t r (divided f (next_place s) l cs)
+  quotient_refused s t e r l cs first h =
+      let q : Laid = f (next_place s) (quotient l cs) in
+      let m : Laid = multiple_at (next_place s + length q.steps) l q.root in
+      forms_refused s t e r q (after m (with_rest f (next_place s + length q.steps + length m.steps) m.root (remainder l cs))) h first
+
+  -- no cube is left
+  pub rest_none : (u : RecipeValue) (b : Lit) (rest : List Cube) → rest ≡ [] → length u.steps ≤ 128 → place b < next_place u → Forms u u (Ok b) (with_rest f (next_place u) b rest)
+  rest_none u b rest e few inside = subst (λ (cs : List Cube). Forms u u (Ok b) (with_rest f (next_place u) b cs)) (sym e) (forms_lays u u b (given b) (lays_given u b b refl few inside))
+
+  with_some : (p : ℕ) (b : Lit) (rest : List Cube) → (rest ≡ [] → ⊥) → with_rest f p b rest ≡ (let r : Laid = f p rest in after r (or_at (p + length r.steps) b r.root))
+  with_some p b [] ne = absurd (ne refl)
+  with_some p b (c ∷ cs) ne = refl
+
+  pub rest_some : (u v w : RecipeValue) (b a : Lit) (r : Result Lit FactorError) (rest : List Cube) → (rest ≡ [] → ⊥) → Forms u v (Ok a) (f (next_place u) rest)
+      → Forms v w r (or_at (next_place v) b a) → Forms u w r (with_rest f (next_place u) b rest)
+  rest_some u v w b a r rest ne first then =
+      subst (λ (x : Laid). Forms u w r x) (sym (with_some (next_place u) b rest ne)) (forms_after u v w a r (f (next_place u) rest) (λ p q. or_at p b q) first then)
+
+  pub rest_refused : (u v : RecipeValue) (b : Lit) (e : FactorError) (r : Result Lit FactorError) (rest : List Cube) → (rest ≡ [] → ⊥) → Forms u v (Err e) (f (next_place u) rest)
+      → r ≡ Err e → Forms u v r (with_rest f (next_place u) b rest)
+  rest_refused u v b e r rest ne first h =
+      let x : Laid = f (next_place u) rest in
+      subst (λ (y : Laid). Forms u v r y) (sym (with_some (next_place u) b rest ne)) (forms_refused u v e r x (or_at (next_place u + length x.steps) b x.root) h first)
+
+-- whether cubes are left, by how many there are
+pub none_left : (cs : List Cube) (n : ℕ) → n ≡ length cs → (n == 0) ≡ true → cs ≡ []
+none_left [] n e h = refl
+none_left (c ∷ cs) n e h = absurd (let k : n ≡ 0 = eqb-true n 0 h in let m : length (c ∷ cs) ≡ 0 = sym e ∙ k in omega (arith, m))
+
+pub some_left : (cs : List Cube) (n : ℕ) → n ≡ length cs → (n == 0) ≡ false → cs ≡ [] → ⊥
+some_left cs n e h k = eqb-false n 0 h (e ∙ ap length k)
+
+-- the form of a list, in other words
+pub rest_as : (u v : RecipeValue) (r : Result Lit FactorError) (k n : ℕ) (ds es : List Cube) → k ≡ n → ds ≡ es → Forms u v r (form_of k (next_place u) ds) → Forms u v r (form_of n (next_place u) es)
+rest_as u v r k n ds es ek ed h = subst (λ (j : ℕ). Forms u v r (form_of j (next_place u) es)) ek (subst (λ (xs : List Cube). Forms u v r (form_of k (next_place u) xs)) ed h)

@@ -1,13 +1,12 @@
 -- Tables of halves, of unions, and of one variable more, row by row.
-use Rattle.std.proofs.Common.{◌≡◌, ℕ, suc, ◌+◌, ◌-◌, ◌*◌, ◌%◌, ◌^◌, ◌<◌, ◌≤◌, Bool, true, false, not, cond, List, refl, sym, ◌∙◌, ap, subst, arith, ◌||◌}
+use Rattle.std.proofs.Common.{◌≡◌, ℕ, ◌+◌, ◌-◌, ◌*◌, ◌%◌, ◌^◌, ◌<◌, Bool, true, false, not, cond, refl, sym, ◌∙◌, ap, subst, arith, ◌||◌}
 use Rattle.std.specs.Prelude.{◌&&◌}
-use Rattle.std.specs.Int.{bit_at}
-use Rattle.std.proofs.lemmas.Nat.{pow-add, mul-le, mod_below, pow_pos, mod-mul-add}
+use Rattle.std.proofs.lemmas.Nat.{pow-add, mul-le, pow_pos}
 use Rattle.std.proofs.lemmas.Nat.Bits.{bit_at_above}
 use Rattle.lnet_tables.specs.Bits.{Rows, row, by_rows, bit_of, is_set, with_bit, and_rows, not_rows, expand_rows, variable_rows}
 use Rattle.lnet_tables.specs.Inverse.{row_inside}
 use Rattle.lnet_tables.proofs.Ops.{same_rows}
-use Rattle.lnet_sop.specs.Isop.{half, or_rows, minus_rows, joined_rows}
+use Rattle.lnet_sop.specs.Isop.{half, or_rows, joined_rows}
 
 or_bits : (x y : Bool) → not (not x && not y) ≡ (x || y)
 or_bits true y = refl

@@ -1,6 +1,6 @@
 -- Factored forms of covers: algebraic division by the literal that stands in most cubes. Source: R. K. Brayton, "Factoring
 -- Logic Functions", IBM Journal of Research and Development 31 (1987); here literals are the only divisors.
-use Rattle.std.specs.Prelude.{Result, Err, IsOk, OnOk, IfOk, ◌≡◌, ◌≤◌, ◌<◌, ℕ, zero, suc, ◌+◌, ◌-◌, ◌*◌, ◌/◌, ◌%◌, length, Bool, true, false, not, cond, List, [], ◌∷◌, ◌++◌, ◌==◌, ◌&&◌, nat_lt, nat_le, map}
+use Rattle.std.specs.Prelude.{Result, Err, IsOk, OnOk, IfOk, ◌≡◌, ◌≤◌, ◌<◌, ℕ, zero, suc, ◌+◌, ◌-◌, ◌*◌, ◌%◌, length, Bool, true, false, not, cond, List, [], ◌∷◌, ◌++◌, ◌==◌, ◌&&◌, nat_lt, nat_le, map}
 use Rattle.std.specs.List.{list_any, count_by, filter, sum_by}
 use mathlib.Core.Bool.{beq}
 use lib.ListN.{get_or}

@@ -1,6 +1,6 @@
 //! Cubes, and covers of functions by them.
 
-ghost use Rattle.std.specs.Prelude.{◌≡◌, ◌≤◌, ◌<◌, ◌^◌, ℕ, length, slice_get, [], IsTrue};
+ghost use Rattle.std.specs.Prelude.{◌≡◌, ◌≤◌, ◌<◌, ◌^◌, ℕ, length, slice_get};
 ghost use Rattle.lnet_sop.specs.Covers.{IsCube, IsCover};
 
 use std::marker::Model;
@@ -51,13 +51,6 @@ impl Cover {
         ensures { result ≡ length self.now.cubes }
     {
         self.cubes.len() as u32
-    }
-
-    /// Whether there is no cube: the function is false.
-    pub fn is_empty(&self) -> bool
-        ensures { IsTrue result ↔ (self.now.cubes ≡ []) }
-    {
-        self.cubes.is_empty()
     }
 
     /// Cube `i`, counted from 0; `i` is below `len()`. Constant time.

@@ -78,8 +78,18 @@ fn lay(
         let table = lay(cubes, context, low, under)?;
         return Ok(table.expand(vars));
     }
-    let if_false = lay(cubes, with_literal(context, vars - 1, false), minus(low, over), under)?;
-    let if_true = lay(cubes, with_literal(context, vars - 1, true), minus(high, under), over)?;
+    let if_false = lay(
+        cubes,
+        with_literal(context, vars - 1, false),
+        minus(low, over),
+        under,
+    )?;
+    let if_true = lay(
+        cubes,
+        with_literal(context, vars - 1, true),
+        minus(high, under),
+        over,
+    )?;
     let left = or(minus(low, if_false), minus(high, if_true));
     let for_both = lay(cubes, context, left, under.and(over))?;
     Ok(joined(or(if_false, for_both), or(if_true, for_both)))

@@ -120,10 +120,13 @@ fn most_common(cubes: &[Cube], vars: u8) -> Lit
     ensures last { result.0 < 22 }
 {
     let mut best = Lit(2);
+    let mut most = uses(cubes, best);
     for k in 0..2 * vars as u16 {
         let literal = Lit(k + 2);
-        if uses(cubes, best) < uses(cubes, literal) {
+        let count = uses(cubes, literal);
+        if most < count {
             best = literal;
+            most = count;
         }
     }
     best

@@ -1,11 +1,10 @@
-use Rattle.std.proofs.Common.{◌≡◌, ◌+◌, ◌-◌, ◌++◌, ℕ, Bool, true, false, List, [], ◌∷◌, map, refl, sym, ap, ◌∙◌, subst, arith, append-nil, ◌==◌, ◌||◌}
-use Rattle.std.specs.Prelude.{◌&&◌}
-use Rattle.lnet_tables.specs.Bits.{Rows, constant_rows, expand_rows, equal_rows, and_rows}
+use Rattle.std.proofs.Common.{◌≡◌, ◌-◌, ◌++◌, ℕ, true, false, List, [], ◌∷◌, map, refl, sym, ap, ◌∙◌, subst, append-nil, ◌==◌, ◌||◌}
+use Rattle.lnet_tables.specs.Bits.{Rows, constant_rows, expand_rows, and_rows}
 use Rattle.lnet_tables.specs.Shannon.{is_constant}
 use Rattle.lnet_sop.specs.declared.cover.Cube.{Cube}
 use Rattle.lnet_sop.specs.Covers.{union_rows}
-use Rattle.lnet_sop.specs.Isop.{universe, in_context, half, minus_rows, or_rows, joined_rows, by_last, by_halves, cubes_of}
-use Rattle.lnet_sop.proofs.Cubes.{cubes_none, cubes_whole, cubes_later, cubes_each, union_whole, union_passed, union_step, context_step, context_one, cubes_passed, cubes_split, same_union, same_added, some_left, left_is, literal_added, joined_as}
+use Rattle.lnet_sop.specs.Isop.{in_context, half, minus_rows, or_rows, cubes_of}
+use Rattle.lnet_sop.proofs.Cubes.{cubes_none, cubes_whole, cubes_each, union_whole, union_passed, union_step, context_step, context_one, cubes_passed, cubes_split, same_union, same_added, some_left, left_is, literal_added, joined_as}
 use Rattle.lnet_sop.proofs.covering.+lay.Goals as goal
 
 pub returns-then-is_constant-clause-cubes : goal.returns-then-is_constant-clause-cubes

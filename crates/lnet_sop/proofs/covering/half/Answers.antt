@@ -1,5 +1,5 @@
-use Rattle.std.proofs.Common.{◌≡◌, ◌-◌, ap, ◌∙◌, sym, subst, arith, ℕ}
-use Rattle.lnet_tables.specs.Bits.{Rows, row, by_rows, cofactor_rows}
+use Rattle.std.proofs.Common.{◌≡◌, ◌-◌, ap, ◌∙◌, arith, ℕ}
+use Rattle.lnet_tables.specs.Bits.{Rows, row}
 use Rattle.lnet_tables.specs.Words.{word_bit}
 use Rattle.lnet_sop.specs.Isop.{half}
 use Rattle.lnet_sop.proofs.TableRows.{half_is}

@@ -1,5 +1,4 @@
-use Rattle.std.proofs.Common.{◌≡◌, ◌+◌, ◌≤◌, ◌^◌, sym, arith, List, refl}
-use Rattle.lnet_sop.specs.declared.cover.Cube.{Cube}
+use Rattle.std.proofs.Common.{◌≡◌, arith, refl}
 use Rattle.lnet_sop.specs.Isop.{cubes_of}
 use Rattle.lnet_sop.proofs.Laws.{Lawful, isop_lawful, isop_due, isop_within}
 use Rattle.lnet_sop.proofs.Cubes.{begun, cover_fits, value_is, room}

@@ -1,4 +1,4 @@
-use Rattle.std.proofs.Common.{◌≡◌, ◌+◌, ◌-◌, ap, ◌∙◌, sym, arith, ℕ}
+use Rattle.std.proofs.Common.{◌≡◌, ◌+◌, ◌-◌, ap, ◌∙◌, arith, ℕ}
 use Rattle.lnet_tables.specs.Bits.{Rows, and_rows, not_rows, expand_rows, variable_rows}
 use Rattle.lnet_sop.specs.Isop.{or_rows}
 use Rattle.lnet_sop.proofs.TableRows.{joined_is}

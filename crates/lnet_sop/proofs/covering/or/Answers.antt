@@ -1,4 +1,4 @@
-use Rattle.std.proofs.Common.{◌≡◌, ap, ◌∙◌}
+use Rattle.std.proofs.Common.{ap, ◌∙◌}
 use Rattle.lnet_tables.specs.Bits.{Rows, not_rows, and_rows}
 use Rattle.lnet_sop.proofs.TableRows.{or_is}
 use Rattle.lnet_sop.proofs.covering.or.Goals as goal

@@ -1,5 +1,4 @@
-use Rattle.std.proofs.Common.{◌≡◌, ◌+◌, ◌-◌, ◌*◌, ◌^◌, ℕ, false, arith, ◌∙◌}
-use Rattle.std.specs.Int.{bit_at}
+use Rattle.std.proofs.Common.{false, arith, ◌∙◌}
 use Rattle.lnet_tables.specs.Bits.{with_bit}
 use Rattle.lnet_tables.proofs.RowNumbers.{put_is}
 use Rattle.lnet_sop.proofs.factoring.cleared.Goals as goal

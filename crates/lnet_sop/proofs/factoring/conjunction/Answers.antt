@@ -1,7 +1,4 @@
-use Rattle.std.proofs.Common.{◌≡◌, ◌<◌, ℕ, refl, arith, subst, Ok, Err}
-use Rattle.lnet_tables.specs.Recipes.{next_place}
-use Rattle.lnet_tables.specs.Shannon.{Lays}
-use Rattle.lnet_sop.specs.Factored.{conjunction}
+use Rattle.std.proofs.Common.{refl, arith, Ok}
 use Rattle.lnet_sop.proofs.Pushing.{conjunction_begins, conjunction_step, conjunction_refused}
 use Rattle.lnet_sop.proofs.factoring.conjunction.Goals as goal
 

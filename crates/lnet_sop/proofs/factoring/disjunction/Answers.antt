@@ -1,8 +1,5 @@
-use Rattle.std.proofs.Common.{◌≡◌, ◌<◌, ℕ, refl, arith, subst, sym, Ok, Err, get_or, length}
-use Rattle.lnet_tables.specs.Recipes.{next_place}
-use Rattle.lnet_tables.specs.Shannon.{Lays}
+use Rattle.std.proofs.Common.{refl, arith, sym, Ok, get_or, length}
 use Rattle.lnet_sop.specs.Isop.{universe}
-use Rattle.lnet_sop.specs.Factored.{disjunction}
 use Rattle.lnet_sop.proofs.Pushing.{lays_leaves, disjunction_begins, disjunction_step, disjunction_refused}
 use Rattle.lnet_sop.proofs.factoring.disjunction.Goals as goal
 

@@ -1,8 +1,4 @@
-use Rattle.std.proofs.Common.{◌≡◌, ◌+◌, ◌*◌, ◌/◌, ◌%◌, ℕ, arith, ap, ◌∙◌, sym, subst, refl, Ok, Err, Result}
-use Rattle.lnet_tables.specs.declared.step.Lit.{Lit}
-use Rattle.lnet_tables.specs.declared.recipe.RecipeFull.{RecipeFull}
-use Rattle.lnet_tables.specs.Recipes.{RecipeValue, place, next_place}
-use Rattle.lnet_tables.specs.Shannon.{Lays, and_at, or_at, other, plain}
+use Rattle.std.proofs.Common.{Ok}
 use Rattle.lnet_sop.proofs.Pushing.{or_lays, and_of_others}
 use Rattle.lnet_sop.proofs.factoring.or.Goals as goal
 

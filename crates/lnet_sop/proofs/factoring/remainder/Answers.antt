@@ -1,1 +1,0 @@
-use Rattle.lnet_sop.proofs.factoring.remainder.Goals as goal

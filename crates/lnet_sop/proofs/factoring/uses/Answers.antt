@@ -1,1 +1,0 @@
-use Rattle.lnet_sop.proofs.factoring.uses.Goals as goal

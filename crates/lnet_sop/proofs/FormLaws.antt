@@ -1,10 +1,8 @@
 -- What the definitions say of plain cases: forms of few cubes, the literal that stands in most cubes, and the variable that
 -- is passed over.
-use Rattle.std.proofs.Common.{◌≡◌, ℕ, zero, suc, ◌+◌, ◌*◌, ◌%◌, ◌^◌, ◌<◌, ◌≤◌, Bool, true, false, not, cond, List, [], ◌∷◌, length, refl, sym, ◌∙◌, ap, subst, arith, add-one, add-zero, append-nil, ◌==◌, inl, inr, nat_lt, ◌||◌}
-use Rattle.std.specs.List.{list_any}
-use Rattle.std.proofs.lemmas.Bool.{cases_lt, cases_Bool, ltb-true, ltb-false, eqb-true, false≢true}
+use Rattle.std.proofs.Common.{◌≡◌, ℕ, zero, suc, ◌+◌, ◌*◌, ◌^◌, ◌<◌, ◌≤◌, Bool, true, false, not, cond, List, [], ◌∷◌, length, refl, sym, ◌∙◌, ap, subst, arith, add-one, add-zero, append-nil, inl, inr, nat_lt, ◌||◌}
+use Rattle.std.proofs.lemmas.Bool.{cases_lt, ltb-true, ltb-false, eqb-true}
 use Rattle.std.proofs.lemmas.List.Sums.{count_by-le-length}
-use Rattle.std.proofs.lemmas.Nat.Bits.{bit_at_above}
 use Rattle.lnet_tables.specs.Bits.{Rows, row, by_rows, bit_of, is_set, with_bit, cofactor_rows, equal_rows, depends_on}
 use Rattle.lnet_tables.specs.Inverse.{row_inside}
 use Rattle.lnet_tables.specs.declared.step.Lit.{Lit}
@@ -13,8 +11,8 @@ use Rattle.lnet_tables.specs.Shannon.{Laid, given, after}
 use Rattle.lnet_tables.proofs.Equal.{equal_rows_decides}
 use Rattle.lnet_tables.proofs.Ops.{same_rows}
 use Rattle.lnet_sop.specs.declared.cover.Cube.{Cube}
-use Rattle.lnet_sop.specs.Isop.{half, universe}
-use Rattle.lnet_sop.specs.Factored.{literal, stands_in, literal_of, product_at, uses, most_common, is_universe, literal_at, conjunction, cube_at, disjunction, form_of}
+use Rattle.lnet_sop.specs.Isop.{half}
+use Rattle.lnet_sop.specs.Factored.{literal, stands_in, literal_of, product_at, uses, most_common, is_universe, literal_at, conjunction, disjunction, form_of}
 use Rattle.lnet_sop.proofs.CubeRows.{set_none, by_value}
 use Rattle.lnet_sop.proofs.TableRows.{half_is}
 use Rattle.lnet_sop.proofs.Without.{put_here}

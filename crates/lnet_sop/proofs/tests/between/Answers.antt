@@ -1,4 +1,4 @@
-use Rattle.std.proofs.Common.{◌≡◌, sym, ◌∙◌}
+use Rattle.std.proofs.Common.{sym, ◌∙◌}
 use Rattle.lnet_sop.proofs.TurnLaws.{both_imply}
 use Rattle.lnet_sop.proofs.tests.between.Goals as goal
 

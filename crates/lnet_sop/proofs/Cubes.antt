@@ -1,5 +1,5 @@
 -- The recursion of the irredundant sum of products: which case holds, and what each makes of the union of its cubes.
-use Rattle.std.proofs.Common.{◌≡◌, ℕ, zero, suc, ◌+◌, ◌-◌, ◌*◌, ◌%◌, ◌^◌, ◌<◌, ◌≤◌, Bool, true, false, cond, List, [], ◌∷◌, ◌++◌, map, length, refl, sym, ◌∙◌, ap, subst, arith, ◌==◌, ◌||◌, append_assoc, length-append, inl, inr}
+use Rattle.std.proofs.Common.{◌≡◌, ℕ, zero, suc, ◌+◌, ◌-◌, ◌*◌, ◌%◌, ◌^◌, ◌<◌, ◌≤◌, Bool, true, false, cond, List, [], ◌∷◌, ◌++◌, map, length, refl, sym, ◌∙◌, ap, subst, arith, ◌==◌, ◌||◌, append_assoc, append-nil, length-append, inl, inr}
 use Rattle.std.specs.Prelude.{◌&&◌, All}
 use Rattle.std.proofs.lemmas.Bool.{false≢true, ne_eqb, cases_lt}
 use Rattle.std.proofs.lemmas.Nat.{mod-mul-add, pow-add, pow_below}
@@ -42,28 +42,49 @@ cubes_later (suc n) m lower upper h e d =
     ∙ ap (λ (k : ℕ). by_last (equal_rows (half lower k false) (half lower k true) && equal_rows (half upper k false) (half upper k true))
     (λ l u. cubes_of k l u) k (half lower k false) (half lower k true) (half upper k false) (half upper k true)) same
 
--- the same, from what the code knows: the halves, and whether neither bound depends on the last variable
-pub cubes_passed : (n : ℕ) (lower upper low high under over : Rows) → is_constant lower false ≡ false → (n == 0 || is_constant upper true) ≡ false
-    → low ≡ half lower (n - 1) false → high ≡ half lower (n - 1) true → under ≡ half upper (n - 1) false → over ≡ half upper (n - 1) true
-    → (equal_rows low high && equal_rows under over) ≡ true → cubes_of n lower upper ≡ cubes_of (n - 1) low under
-cubes_passed n lower upper low high under over h e el eh eu eo same =
-    cubes_later n (n - 1) lower upper h e refl
-    ∙ sym (ap (λ (x : Rows). by_last (equal_rows x (half lower (n - 1) true) && equal_rows (half upper (n - 1) false) (half upper (n - 1) true)) (λ l u. cubes_of (n - 1) l u) (n - 1) x (half lower (n - 1) true) (half upper (n - 1) false) (half upper (n - 1) true)) el)
-    ∙ sym (ap (λ (x : Rows). by_last (equal_rows low x && equal_rows (half upper (n - 1) false) (half upper (n - 1) true)) (λ l u. cubes_of (n - 1) l u) (n - 1) low x (half upper (n - 1) false) (half upper (n - 1) true)) eh)
-    ∙ sym (ap (λ (x : Rows). by_last (equal_rows low high && equal_rows x (half upper (n - 1) true)) (λ l u. cubes_of (n - 1) l u) (n - 1) low high x (half upper (n - 1) true)) eu)
-    ∙ sym (ap (λ (x : Rows). by_last (equal_rows low high && equal_rows under x) (λ l u. cubes_of (n - 1) l u) (n - 1) low high under x) eo)
-    ∙ ap (λ t. by_last t (λ l u. cubes_of (n - 1) l u) (n - 1) low high under over) same
+-- what the code knows once neither bound is settled: the halves of both bounds
+pub record Turn (lower upper low high under over : Rows) : Type 0 where
+  pub some : is_constant lower false ≡ false
+  pub later : (lower.vars == 0 || is_constant upper true) ≡ false
+  pub low_is : low ≡ half lower (lower.vars - 1) false
+  pub high_is : high ≡ half lower (lower.vars - 1) true
+  pub under_is : under ≡ half upper (lower.vars - 1) false
+  pub over_is : over ≡ half upper (lower.vars - 1) true
 
-pub cubes_split : (n : ℕ) (lower upper low high under over : Rows) → is_constant lower false ≡ false → (n == 0 || is_constant upper true) ≡ false
-    → low ≡ half lower (n - 1) false → high ≡ half lower (n - 1) true → under ≡ half upper (n - 1) false → over ≡ half upper (n - 1) true
-    → (equal_rows low high && equal_rows under over) ≡ false → cubes_of n lower upper ≡ by_halves (λ l u. cubes_of (n - 1) l u) (n - 1) low high under over
-cubes_split n lower upper low high under over h e el eh eu eo same =
-    cubes_later n (n - 1) lower upper h e refl
-    ∙ sym (ap (λ (x : Rows). by_last (equal_rows x (half lower (n - 1) true) && equal_rows (half upper (n - 1) false) (half upper (n - 1) true)) (λ l u. cubes_of (n - 1) l u) (n - 1) x (half lower (n - 1) true) (half upper (n - 1) false) (half upper (n - 1) true)) el)
-    ∙ sym (ap (λ (x : Rows). by_last (equal_rows low x && equal_rows (half upper (n - 1) false) (half upper (n - 1) true)) (λ l u. cubes_of (n - 1) l u) (n - 1) low x (half upper (n - 1) false) (half upper (n - 1) true)) eh)
-    ∙ sym (ap (λ (x : Rows). by_last (equal_rows low high && equal_rows x (half upper (n - 1) true)) (λ l u. cubes_of (n - 1) l u) (n - 1) low high x (half upper (n - 1) true)) eu)
-    ∙ sym (ap (λ (x : Rows). by_last (equal_rows low high && equal_rows under x) (λ l u. cubes_of (n - 1) l u) (n - 1) low high under x) eo)
-    ∙ ap (λ t. by_last t (λ l u. cubes_of (n - 1) l u) (n - 1) low high under over) same
+pub turn_of : (lower upper low high under over : Rows) → lower.vars ≡ upper.vars → is_constant lower false ≡ false → (upper.vars == 0 || is_constant upper true) ≡ false
+    → low ≡ half lower (lower.vars - 1) false → high ≡ half lower (lower.vars - 1) true → under ≡ half upper (upper.vars - 1) false → over ≡ half upper (upper.vars - 1) true
+    → Turn lower upper low high under over
+turn_of lower upper low high under over e some later el eh eu eo = record {
+  some = some;
+  later = ap (λ (k : ℕ). k == 0 || is_constant upper true) e ∙ later;
+  low_is = el;
+  high_is = eh;
+  under_is = eu ∙ ap (λ (k : ℕ). half upper (k - 1) false) (sym e);
+  over_is = eo ∙ ap (λ (k : ℕ). half upper (k - 1) true) (sym e);
+}
+
+by_turn : (lower upper low high under over : Rows) → Turn lower upper low high under over
+    → cubes_of lower.vars lower upper ≡ by_last (equal_rows low high && equal_rows under over) (λ l u. cubes_of (lower.vars - 1) l u) (lower.vars - 1) low high under over
+by_turn lower upper low high under over t =
+    let n : ℕ = lower.vars in
+    let f : Rows → Rows → List Cube = λ l u. cubes_of (n - 1) l u in
+    cubes_later n (n - 1) lower upper t.some t.later refl
+    ∙ sym (ap (λ (x : Rows). by_last (equal_rows x (half lower (n - 1) true) && equal_rows (half upper (n - 1) false) (half upper (n - 1) true)) f (n - 1) x (half lower (n - 1) true) (half upper (n - 1) false) (half upper (n - 1) true)) t.low_is)
+    ∙ sym (ap (λ (x : Rows). by_last (equal_rows low x && equal_rows (half upper (n - 1) false) (half upper (n - 1) true)) f (n - 1) low x (half upper (n - 1) false) (half upper (n - 1) true)) t.high_is)
+    ∙ sym (ap (λ (x : Rows). by_last (equal_rows low high && equal_rows x (half upper (n - 1) true)) f (n - 1) low high x (half upper (n - 1) true)) t.under_is)
+    ∙ sym (ap (λ (x : Rows). by_last (equal_rows low high && equal_rows under x) f (n - 1) low high under x) t.over_is)
+
+-- neither bound depends on the last variable
+pub cubes_passed : (lower upper low high under over : Rows) → Turn lower upper low high under over → (equal_rows low high && equal_rows under over) ≡ true
+    → cubes_of lower.vars lower upper ≡ cubes_of (lower.vars - 1) low under
+cubes_passed lower upper low high under over t same =
+    by_turn lower upper low high under over t ∙ ap (λ b. by_last b (λ l u. cubes_of (lower.vars - 1) l u) (lower.vars - 1) low high under over) same
+
+-- one of them does
+pub cubes_split : (lower upper low high under over : Rows) → Turn lower upper low high under over → (equal_rows low high && equal_rows under over) ≡ false
+    → cubes_of lower.vars lower upper ≡ by_halves (λ l u. cubes_of (lower.vars - 1) l u) (lower.vars - 1) low high under over
+cubes_split lower upper low high under over t same =
+    by_turn lower upper low high under over t ∙ ap (λ b. by_last b (λ l u. cubes_of (lower.vars - 1) l u) (lower.vars - 1) low high under over) same
 
 -- ---- the cubes are cubes of these variables
 each_free : (n : ℕ) (cs : List Cube) → All (IsCube n) cs → All (IsCube (suc n)) cs
@@ -176,6 +197,27 @@ context_step n a a0 a1 c0 c1 cd before x y z e0 e1 ex ey ez =
     ∙ append_assoc before (map (in_context a) w0) (map (in_context a) w1 ++ map (in_context a) cd)
     ∙ ap (λ (t : List Cube). before ++ (map (in_context a) w0 ++ t)) (sym (map-append (in_context a) w1 cd))
     ∙ ap (λ (t : List Cube). before ++ t) (sym (map-append (in_context a) w0 (w1 ++ cd)))
+
+-- ---- the ends of the recursion, as the code answers them
+pub none_added : (n : ℕ) (lower upper : Rows) (a : Cube) (before : List Cube) → is_constant lower false ≡ true → before ≡ before ++ map (in_context a) (cubes_of n lower upper)
+none_added n lower upper a before h =
+    sym (append-nil before) ∙ ap (λ (cs : List Cube). before ++ map (in_context a) cs) (sym (cubes_none n lower upper h))
+
+pub none_union : (n k : ℕ) (lower upper t : Rows) → t ≡ constant_rows k false → k ≡ n → is_constant lower false ≡ true → t ≡ union_rows n (cubes_of n lower upper)
+none_union n k lower upper t et ek h =
+    et ∙ ap (λ (j : ℕ). constant_rows j false) ek ∙ ap (λ (cs : List Cube). union_rows n cs) (sym (cubes_none n lower upper h))
+
+pub whole_added : (lower upper : Rows) (a : Cube) (before x : List Cube) → lower.vars ≡ upper.vars → is_constant lower false ≡ false → (upper.vars == 0 || is_constant upper true) ≡ true
+    → x ≡ before ++ a ∷ [] → x ≡ before ++ map (in_context a) (cubes_of lower.vars lower upper)
+whole_added lower upper a before x e h w ex =
+    let whole : (lower.vars == 0 || is_constant upper true) ≡ true = ap (λ (k : ℕ). k == 0 || is_constant upper true) e ∙ w in
+    ex ∙ ap (λ (c : Cube). before ++ c ∷ []) (context_one a) ∙ ap (λ (cs : List Cube). before ++ map (in_context a) cs) (sym (cubes_whole lower.vars lower upper h whole))
+
+pub whole_union : (lower upper t : Rows) (k : ℕ) → t ≡ constant_rows k true → k ≡ lower.vars → lower.vars ≡ upper.vars → is_constant lower false ≡ false → (upper.vars == 0 || is_constant upper true) ≡ true
+    → t ≡ union_rows lower.vars (cubes_of lower.vars lower upper)
+whole_union lower upper t k et ek e h w =
+    let whole : (lower.vars == 0 || is_constant upper true) ≡ true = ap (λ (j : ℕ). j == 0 || is_constant upper true) e ∙ w in
+    et ∙ ap (λ (j : ℕ). constant_rows j true) ek ∙ union_whole lower.vars ∙ ap (λ (cs : List Cube). union_rows lower.vars cs) (sym (cubes_whole lower.vars lower upper h whole))
 
 -- ---- what a turn answers, of tables that are known by equations
 pub same_union : (k m : ℕ) (l l' u u' t : Rows) → t ≡ union_rows k (cubes_of k l u) → k ≡ m → l ≡ l' → u ≡ u' → t ≡ union_rows m (cubes_of m l' u')

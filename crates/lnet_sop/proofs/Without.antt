@@ -24,13 +24,17 @@ bit_low : (v : Bool) → bit_of v % 2 ≡ bit_of v
 bit_low true = refl
 bit_low false = refl
 
-cleared_here : (p : Bool) (n y : ℕ) → y < 2 ^ n → with_bit (bit_of p * 2 ^ n + y) n false ≡ y
+-- the last bit set to a value
+pub put_here : (p v : Bool) (n y : ℕ) → y < 2 ^ n → with_bit (bit_of p * 2 ^ n + y) n v ≡ bit_of v * 2 ^ n + y
 unfolding with_bit
-cleared_here p n y lt =
+put_here p v n y lt =
     let z : n - n ≡ 0 = omega arith in
     let e : bit_at (bit_of p * 2 ^ n + y) n ≡ bit_of p =
     bit_at_cat_high (bit_of p) n y n lt (omega arith) ∙ ap (λ i. bit_at (bit_of p) i) z ∙ bit_at_lowest (bit_of p) ∙ bit_low p in
-    ap (λ k. (bit_of p * 2 ^ n + y - k * 2 ^ n) + 0 * 2 ^ n) e ∙ omega arith
+    ap (λ k. (bit_of p * 2 ^ n + y - k * 2 ^ n) + bit_of v * 2 ^ n) e ∙ omega arith
+
+cleared_here : (p : Bool) (n y : ℕ) → y < 2 ^ n → with_bit (bit_of p * 2 ^ n + y) n false ≡ y
+cleared_here p n y lt = put_here p false n y lt ∙ omega arith
 
 -- another literal than the last one
 pub without_with : (n i : ℕ) (p : Bool) (c : Cube) → i < n → without i (with_literal n p c) ≡ with_literal n p (without i c)

@@ -11,7 +11,7 @@ abbrev pub without : ℕ → Cube → Cube
 without i c = record { care = with_bit c.care i false; value = with_bit c.value i false }
 
 -- a row of n variables at which a cube holds and a function is false
-pub record Leaves (n : ℕ) (upper : Rows) (c : Cube) : Type 0 where
+pub record Exceeds (n : ℕ) (upper : Rows) (c : Cube) : Type 0 where
   pub row_at : ℕ
   pub inside : row_at < 2 ^ n
   pub covered : IsTrue (holds n c row_at)
@@ -21,7 +21,7 @@ pub record Leaves (n : ℕ) (upper : Rows) (c : Cube) : Type 0 where
 -- the cubes with one literal less
 pub record IsPrime (n : ℕ) (upper : Rows) (c : Cube) : Type 0 where
   pub implies : (r : ℕ) → r < 2 ^ n → IsTrue (holds n c r) → IsTrue (row upper r)
-  pub least : (i : ℕ) → i < n → IsTrue (is_set c.care i) → Leaves n upper (without i c)
+  pub least : (i : ℕ) → i < n → IsTrue (is_set c.care i) → Exceeds n upper (without i c)
 
 -- a cube that a cover needs: it holds at some row of the lower bound, and no other cube of the cover holds there
 pub record IsNeeded (n : ℕ) (lower : Rows) (cs : List Cube) (c : Cube) : Type 0 where

@@ -64,7 +64,7 @@ impl From<AllocError> for FactorError {
 ///
 /// # Errors
 ///
-/// `Full` only where the form has more than 128 steps, and then there is no recipe. `NoMemory` where memory runs out.
+/// `Full` exactly where the form has more than 128 steps, unless memory runs out first: then `NoMemory`.
 pub fn factor(alloc: Global, cover: &Cover) -> Result<Recipe, FactorError>
     ensures form { IfOk result (λ r. r ≡ factored_of cover.now) }
     ensures function { IfOk result (λ r. sim r ≡ cover_rows cover.now) }

@@ -1,6 +1,6 @@
 use Rattle.std.proofs.Common.{◌≡◌, arith, refl}
 use Rattle.lnet_sop.specs.Isop.{cubes_of}
-use Rattle.lnet_sop.proofs.Laws.{Lawful, isop_lawful, isop_due, isop_within}
+use Rattle.lnet_sop.proofs.TurnLaws.{Lawful, isop_lawful, isop_due, isop_within}
 use Rattle.lnet_sop.proofs.Cubes.{begun, cover_fits, value_is, room}
 use Rattle.lnet_sop.proofs.covering.isop.Goals as goal
 

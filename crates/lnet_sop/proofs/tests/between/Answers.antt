@@ -1,5 +1,5 @@
-use Rattle.std.proofs.Common.{◌≡◌, sym, ◌∙◌}
-use Rattle.lnet_sop.proofs.Laws.{both_imply}
+use Rattle.std.proofs.Common.{sym, ◌∙◌}
+use Rattle.lnet_sop.proofs.TurnLaws.{both_imply}
 use Rattle.lnet_sop.proofs.tests.between.Goals as goal
 
 pub isop-requires-clause-implies : goal.isop-requires-clause-implies

@@ -15,7 +15,7 @@ use Rattle.lnet_tables.proofs.Rowwise.{rows_long, told_by_rows}
 use Rattle.lnet_sop.specs.declared.cover.Cube.{Cube}
 use Rattle.lnet_sop.specs.Covers.{holds, covers, union_rows, IsCube}
 use Rattle.lnet_sop.specs.Isop.{universe, with_literal, half, or_rows, minus_rows, by_last, by_bounds, cubes_of}
-use Rattle.lnet_sop.specs.Irredundant.{without, Leaves, IsPrime, IsNeeded}
+use Rattle.lnet_sop.specs.Irredundant.{without, Exceeds, IsPrime, IsNeeded}
 use Rattle.lnet_sop.proofs.CubeRows.{set_low, set_above, set_none, row_fits, by_value, holds_universe, holds_free, holds_with, count_like, count_map, count_none, count_cons, covers_free, covers_step, and_true}
 use Rattle.lnet_sop.proofs.Cubes.{cubes_each}
 use Rattle.lnet_sop.proofs.Without.{cleared_le, without_with, without_last}
@@ -160,7 +160,7 @@ prime_with n p u l own other cs c cube tl to here there prime need = record {
   least = λ i lt s. elim (cases_lt i n) [
     | inl l ↦
         let e : 2 ^ n + c.care ≡ 1 * 2 ^ n + c.care = omega arith in
-        let w : Leaves n own (without i c) = prime.least i l (sym (ap (λ k. is_set k i) e ∙ set_low 1 n c.care i l) ∙ s) in
+        let w : Exceeds n own (without i c) = prime.least i l (sym (ap (λ k. is_set k i) e ∙ set_low 1 n c.care i l) ∙ s) in
         record {
           row_at = bit_of p * 2 ^ n + w.row_at;
           inside = row_fits p n w.row_at w.inside;
@@ -171,7 +171,7 @@ prime_with n p u l own other cs c cube tl to here there prime need = record {
     | inr g ↦
         let same : n ≡ i = omega arith in
         let off : not (row other need.row_at) ≡ true = (and_parts (row l need.row_at) (not (row other need.row_at)) (sym (minus_row n l other need.row_at tl to need.inside) ∙ need.due)).1 in
-        subst (λ (k : ℕ). Leaves (suc n) u (without k (with_literal n p c))) same (record {
+        subst (λ (k : ℕ). Exceeds (suc n) u (without k (with_literal n p c))) same (record {
           row_at = bit_of (not p) * 2 ^ n + need.row_at;
           inside = row_fits (not p) n need.row_at need.inside;
           covered = ap (λ (d : Cube). holds (suc n) d (bit_of (not p) * 2 ^ n + need.row_at)) (without_last n p c cube.care cube.value)
@@ -327,7 +327,7 @@ module _ (n : ℕ) (l u low high under over : Rows) (c0 c1 cd : List Cube) (h : 
       prime_free n u (get_or cd k d) (p.cubesd k d lt)
       (λ b x l e. both_true b x l (prime.implies x l e))
       (λ i l s.
-      let w : Leaves n (and_rows under over) (without i (get_or cd k d)) = prime.least i l s in
+      let w : Exceeds n (and_rows under over) (without i (get_or cd k d)) = prime.least i l s in
       let v : (b : Bool) × (row u (bit_of b * 2 ^ n + w.row_at) ≡ false) = one_false w.row_at w.inside w.off in
       (v.0, w.row_at, w.inside, w.covered, v.1))
 
@@ -413,7 +413,7 @@ lawful_passed n l u low high under over cs h el eu each law = record {
       prime_free n u (get_or cs k d) (each k d lt)
       (λ b x l e. sym (upper_row b x l) ∙ prime.implies x l e)
       (λ i l s.
-      let w : Leaves n under (without i (get_or cs k d)) = prime.least i l s in
+      let w : Exceeds n under (without i (get_or cs k d)) = prime.least i l s in
       (false, w.row_at, w.inside, w.covered, sym (upper_row false w.row_at w.inside) ∙ w.off));
   needed = λ k d lt.
       let w : IsNeeded n low cs (get_or cs k d) = law.needed k d lt in

@@ -1,0 +1,3 @@
+pub mod Strashed
+pub mod Laid
+pub mod Views

@@ -1,0 +1,4 @@
+//! Networks of four kinds.
+#![tactic(auto)]
+
+mod telling;

@@ -1,3 +1,4 @@
 pub mod Strashed
 pub mod Laid
 pub mod Views
+pub mod Rooms

@@ -1,6 +1,7 @@
 -- Structural hashing: each gate is its own normal form, no two gates have one key, and where a gate is placed.
 -- Source: structural hashing of and-inverter graphs (Kuehlmann and Krohm 1997); here a gate has a phase, and its key has none.
-use Rattle.std.specs.Prelude.{◌≡◌, ℕ, suc, ◌+◌, Bool, true, false, cond, ◌&&◌, List, [], ◌∷◌, eqb, Option, None, Some}
+use Rattle.std.specs.Prelude.{◌≡◌, ℕ, suc, ◌+◌, Bool, true, false, cond, ◌&&◌, List, [], ◌∷◌, eqb, slice_get, Option, None, Some}
+use Rattle.std.specs.List.{flat_map}
 use Rattle.std.specs.FinMap.{entries, keys}
 use Rattle.lnet_gates.specs.declared.signal.Signal.{Signal}
 use Rattle.lnet_gates.specs.declared.gate.Kind.{Kind}
@@ -12,7 +13,7 @@ use Rattle.lnet_gates.specs.Gates.{GateValue, KeyValue, flip}
 use Rattle.lnet_gates.specs.Operands.{flipped, is_same}
 use Rattle.lnet_gates.specs.Natives.{IsNativeGate}
 use Rattle.lnet_gates.specs.NormalLaws.{keyed_gate}
-use Rattle.lnet_model.specs.Networks.{NetworkValue, Entry, Constant, Input, IsGate}
+use Rattle.lnet_model.specs.Networks.{NetworkValue, Entry, gate_at, Constant, Input, IsGate}
 use Rattle.lnet_model.specs.Changes.{GateAt, with_entry}
 
 -- the network as one of this kind
@@ -49,26 +50,22 @@ same_signals _ _ = false
 abbrev pub same_key : KeyValue → KeyValue → Bool
 same_key k l = same_op k.op l.op && same_signals k.fanins l.fanins
 
--- whether an entry is a gate with the key
-abbrev pub has_key : KeyValue → Entry → Bool
-has_key k Constant = false
-has_key k (Input i) = false
-has_key k (IsGate g) = same_key k (key_of g)
+-- an entry's gate as the signal whose value is its key's, where it has the key
+abbrev pub held_by : KeyValue → ℕ → Entry → List Signal
+held_by k n Constant = []
+held_by k n (Input i) = []
+held_by k n (IsGate g) = cond (same_key k (key_of g)) ((record { node = record { 0 = n }; complement = g.phase }) ∷ []) []
 
--- the phase of an entry's gate
-abbrev pub phase_in : Entry → Bool
-phase_in Constant = false
-phase_in (Input i) = false
-phase_in (IsGate g) = g.phase
-
--- the first of the entries that is a gate with the key, as the signal whose value is the key's
-abbrev pub found_among : KeyValue → List (ℕ × Entry) → Option Signal
-found_among k [] = None
-found_among k (e ∷ es) = cond (has_key k e.1) (Some (record { node = record { 0 = e.0 }; complement = phase_in e.1 })) (found_among k es)
-
--- the signal of the gate with the key, none where there is no such gate
+-- the signal of the gate with the key, the first where there are several, none where there is none
 unfoldable pub found : NetworkValue → KeyValue → Option Signal
-found N k = found_among k (entries N.nodes)
+found N k = slice_get (flat_map (λ e. held_by k e.0 e.1) (entries N.nodes)) 0
+
+-- the gate at n has the key, and s is the signal whose value is the key's
+pub record HoldsKey (N : NetworkValue) (k : KeyValue) (n : ℕ) (s : Signal) : Type 0 where
+  pub gate : GateValue
+  pub at : gate_at N n ≡ Some gate
+  pub key : same_key k (key_of gate) ≡ true
+  pub signal : s ≡ record { node = record { 0 = n }; complement = gate.phase }
 
 -- the first number, from i on, that isn't in an ascending list
 abbrev pub first_gap : ℕ → List ℕ → ℕ

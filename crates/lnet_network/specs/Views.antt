@@ -1,7 +1,6 @@
 -- Boxed views in slots, and how they stay in step.
 use Rattle.std.specs.Prelude.{◌≡◌, ℕ, ◌<◌, ◌≤◌, List, Option, length, IfSome, IsSome, Some, None, slice_index_or}
 use Rattle.lnet_model.specs.Networks.{NetworkValue}
-use Rattle.lnet_model.specs.Dags.{AreBelow}
 use Rattle.lnet_model.specs.Answers.{Answer, InStep}
 use Rattle.lnet_model.specs.declared.view_spec.ViewSpec.{ViewSpec}
 
@@ -9,11 +8,11 @@ use Rattle.lnet_model.specs.declared.view_spec.ViewSpec.{ViewSpec}
 abbrev pub EachSlot : {B : Type 0} → (B → Type 0) → List (Option B) → Type 0
 EachSlot P slots = (k : ℕ) → IfSome (slice_index_or slots k None) P
 
--- the view is in step with a network, and has memory for each of its numbers; `B` is the type of a view, and the functions are
+-- the view is in step with a network, and has memory for so many numbers; `B` is the type of a view, and the functions are
 -- what contracts see of it
-pub record Fits {B : Type 0} (spec_of : B → Option ViewSpec) (kept : B → ℕ → Option Answer) (room : B → ℕ) (N : NetworkValue) (view : B) : Type 0 where
+pub record Fits {B : Type 0} (spec_of : B → Option ViewSpec) (kept : B → ℕ → Option Answer) (room : B → ℕ) (N : NetworkValue) (numbers : ℕ) (view : B) : Type 0 where
   pub in_step : InStep (spec_of view) (kept view) N
-  pub room_enough : AreBelow N (room view)
+  pub room_enough : numbers ≤ room view
 
 -- a view has the kind and spec that it had, and no less room
 pub record Kept {B K : Type 0} (kind_of : B → K) (spec_of : B → Option ViewSpec) (room : B → ℕ) (old new : B) : Type 0 where

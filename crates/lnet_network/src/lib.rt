@@ -1,4 +1,5 @@
 //! Networks of four kinds.
 #![tactic(auto)]
 
+mod hashed;
 mod telling;

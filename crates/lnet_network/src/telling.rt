@@ -8,13 +8,15 @@ ghost use Rattle.lnet_network.specs.Views.{EachSlot, Fits, Kept, SlotKept, Slots
 use lnet_store::{Event, Store, View};
 use std::alloc::AllocError;
 
-/// Tells the view of a slot of an event, and answers how often it read the network; 0 where the slot is empty.
-fn tell_slot(slot: &mut Option<Box<dyn View>>, store: &Store, event: &Event) -> u64
+/// Tells the view of a slot of an event, and answers how often it read the network; 0 where the slot is empty. The view has
+/// memory for `numbers` numbers, and those of the network are below.
+fn tell_slot(slot: &mut Option<Box<dyn View>>, store: &Store, event: &Event, numbers: u32) -> u64
     requires before { IsDag (was event.now store.now.network) }
     requires event { IsEvent event.now store.now.network }
-    requires room { IfSome slot.old (λ b. AreBelow store.now.network (room b)) }
-    requires fit { IfSome slot.old (Fits spec_of kept room (was event.now store.now.network)) }
-    ensures fit { IfSome slot.new (Fits spec_of kept room store.now.network) }
+    requires below { AreBelow store.now.network numbers }
+    requires below_before { AreBelow (was event.now store.now.network) numbers }
+    requires fit { IfSome slot.old (Fits spec_of kept room (was event.now store.now.network) numbers) }
+    ensures fit { IfSome slot.new (Fits spec_of kept room store.now.network numbers) }
     ensures kept { SlotKept (Kept kind_of spec_of room) slot.old slot.new }
 {
     match slot {
@@ -33,52 +35,58 @@ pub(crate) fn tell(
     visits: &mut Vec<u64>,
     store: &Store,
     event: &Event,
+    numbers: u32,
 )
     requires before { IsDag (was event.now store.now.network) }
     requires event { IsEvent event.now store.now.network }
-    requires room { EachSlot (λ b. AreBelow store.now.network (room b)) views.old.items }
-    requires fit { EachSlot (Fits spec_of kept room (was event.now store.now.network)) views.old.items }
-    ensures fit { EachSlot (Fits spec_of kept room store.now.network) views.new.items }
+    requires below { AreBelow store.now.network numbers }
+    requires below_before { AreBelow (was event.now store.now.network) numbers }
+    requires fit { EachSlot (Fits spec_of kept room (was event.now store.now.network) numbers) views.old.items }
+    ensures fit { EachSlot (Fits spec_of kept room store.now.network numbers) views.new.items }
     ensures kept { SlotsKept (Kept kind_of spec_of room) views.old.items views.new.items }
 {
     for i in 0..views.len() {
-        let count = tell_slot(&mut views[i], store, event);
+        let count = tell_slot(&mut views[i], store, event, numbers);
         if let Some(place) = visits.get_mut(i) {
             *place = count;
         }
     }
 }
 
-/// Gets memory for so many numbers in the view of a slot.
+/// Gets memory for `more` numbers in the view of a slot, which has it for `numbers`.
 fn reserve_slot(
     slot: &mut Option<Box<dyn View>>,
-    numbers: u32,
     store: &Store,
+    numbers: u32,
+    more: u32,
 ) -> Result<(), AllocError>
-    requires fit { IfSome slot.old (Fits spec_of kept room store.now.network) }
-    ensures fit { IfSome slot.new (Fits spec_of kept room store.now.network) }
-    ensures room { OnOk result (IfSome slot.new (λ b. numbers ≤ room b)) }
+    requires fit { IfSome slot.old (Fits spec_of kept room store.now.network numbers) }
+    requires more { numbers ≤ more }
+    ensures fit { IfSome slot.new (Fits spec_of kept room store.now.network numbers) }
+    ensures room { OnOk result (IfSome slot.new (Fits spec_of kept room store.now.network more)) }
     ensures kept { SlotKept (Kept kind_of spec_of room) slot.old slot.new }
 {
     match slot {
-        Some(view) => view.reserve(numbers),
+        Some(view) => view.reserve(more),
         None => Ok(()),
     }
 }
 
-/// Gets memory for so many numbers in each view.
+/// Gets memory for `more` numbers in each view. They have it for `numbers`, and keep that whatever the answer.
 pub(crate) fn reserve_all(
     views: &mut Vec<Option<Box<dyn View>>>,
-    numbers: u32,
     store: &Store,
+    numbers: u32,
+    more: u32,
 ) -> Result<(), AllocError>
-    requires fit { EachSlot (Fits spec_of kept room store.now.network) views.old.items }
-    ensures fit { EachSlot (Fits spec_of kept room store.now.network) views.new.items }
-    ensures room { OnOk result (EachSlot (λ b. numbers ≤ room b) views.new.items) }
+    requires fit { EachSlot (Fits spec_of kept room store.now.network numbers) views.old.items }
+    requires more { numbers ≤ more }
+    ensures fit { EachSlot (Fits spec_of kept room store.now.network numbers) views.new.items }
+    ensures room { OnOk result (EachSlot (Fits spec_of kept room store.now.network more) views.new.items) }
     ensures kept { SlotsKept (Kept kind_of spec_of room) views.old.items views.new.items }
 {
     for i in 0..views.len() {
-        reserve_slot(&mut views[i], numbers, store)?;
+        reserve_slot(&mut views[i], store, numbers, more)?;
     }
     Ok(())
 }

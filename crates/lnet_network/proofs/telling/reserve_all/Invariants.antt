@@ -5,7 +5,7 @@ use Rattle.lnet_network.proofs.telling.reserve_all.Given as goal
 -- the views below i have the room
 abbrev pub invariant-loop-i : goal.invariant-loop-i
 invariant-loop-i g l = record {
-  fit : EachSlot (Fits (λ b. (goal.View-dyn g (b.vtable, b.value)).spec_of b.value) (λ b. (goal.View-dyn g (b.vtable, b.value)).kept b.value) (λ b. (goal.View-dyn g (b.vtable, b.value)).room b.value) l.store.network) l.views.items;
-  done : (k : ℕ) → k < l.i → IfSome (slice_index_or l.views.items k None) (λ b. l.numbers ≤ (goal.View-dyn g (b.vtable, b.value)).room b.value);
+  fit : EachSlot (Fits (λ b. (goal.View-dyn g (b.vtable, b.value)).spec_of b.value) (λ b. (goal.View-dyn g (b.vtable, b.value)).kept b.value) (λ b. (goal.View-dyn g (b.vtable, b.value)).room b.value) l.store.network l.numbers) l.views.items;
+  done : (k : ℕ) → k < l.i → IfSome (slice_index_or l.views.items k None) (Fits (λ b. (goal.View-dyn g (b.vtable, b.value)).spec_of b.value) (λ b. (goal.View-dyn g (b.vtable, b.value)).kept b.value) (λ b. (goal.View-dyn g (b.vtable, b.value)).room b.value) l.store.network l.more);
   same : SlotsKept (Kept (λ b. (goal.View-dyn g (b.vtable, b.value)).kind_of b.value) (λ b. (goal.View-dyn g (b.vtable, b.value)).spec_of b.value) (λ b. (goal.View-dyn g (b.vtable, b.value)).room b.value)) l.fn.views.items l.views.items;
 }

@@ -135,8 +135,18 @@ fn reads_a_network(rt: HostRuntime) -> Result<(), Fail> {
     assert_eq!(rt; (store.live_count(), store.numbers()), (6, 6));
     assert_eq!(rt; (store.input_count(), store.output_count()), (2, 2));
     assert_eq!(rt; (store.input(1), store.input(2)), (Some(Node(2)), None));
-    assert_eq!(rt; (store.output(1), store.output(2)), (Some(read(4, true)), None));
-    assert_eq!(rt; (store.refs(Node(3)), store.refs(Node(4)), store.refs(Node(5))), (2, 2, 1));
+    assert_eq!(rt;
+        (store.output(1), store.output(2)),
+        (Some(read(4, true)), None)
+    );
+    assert_eq!(rt;
+        (
+            store.refs(Node(3)),
+            store.refs(Node(4)),
+            store.refs(Node(5))
+        ),
+        (2, 2, 1)
+    );
     assert_eq!(rt; (store.refs(Node(0)), store.refs(Node(9))), (0, 0));
     assert!(rt; store.is_input(Node(2)) && !store.is_input(Node(3)));
     assert!(rt; store.is_live(Node(5)) && !store.is_live(Node(6)));
@@ -154,7 +164,13 @@ fn counts_reads(rt: HostRuntime) -> Result<(), Fail> {
     assert_eq!(rt; parents_of(&store, 5), (121, 2));
     let (look, mut visits) = store.look();
     assert_eq!(rt; (look.live_count(), visits.count()), (7, 0));
-    assert!(rt; is_and(look.gate_of(Node(5), &mut visits), read(4, false), read(3, false)));
+    assert!(rt;
+        is_and(
+            look.gate_of(Node(5), &mut visits),
+            read(4, false),
+            read(3, false)
+        )
+    );
     assert!(rt; look.is_live(Node(6)) && !look.is_live(Node(7)));
     assert_eq!(rt; visits.count(), 1);
     Ok(())
@@ -167,13 +183,35 @@ fn changes_a_network(rt: HostRuntime) -> Result<(), Fail> {
     assert!(rt; store.depends_on(read(5, true), Node(1)) && store.depends_on(three, Node(3)));
     assert!(rt; !store.depends_on(three, Node(4)) && !store.depends_on(read(9, false), Node(9)));
     assert!(rt; try_set(&mut store, Node(3), read(5, false), two).is_none());
-    assert!(rt; is_and(try_set(&mut store, Node(5), two, one).as_ref(), read(4, false), three));
+    assert!(rt;
+        is_and(
+            try_set(&mut store, Node(5), two, one).as_ref(),
+            read(4, false),
+            three
+        )
+    );
     assert!(rt; is_and(store.gate_of(Node(5)), two, one));
     assert!(rt; try_remove(&mut store, Node(4)).is_none());
     assert!(rt; try_move(&mut store, 1, read(3, true)));
-    assert_eq!(rt; (store.refs(Node(4)), store.refs(Node(3)), store.refs(Node(1))), (0, 2, 3));
-    assert!(rt; is_and(try_remove(&mut store, Node(4)).as_ref(), three, read(1, true)));
-    assert_eq!(rt; (store.live_count(), store.numbers(), store.refs(Node(3))), (5, 6, 1));
+    assert_eq!(rt;
+        (
+            store.refs(Node(4)),
+            store.refs(Node(3)),
+            store.refs(Node(1))
+        ),
+        (0, 2, 3)
+    );
+    assert!(rt;
+        is_and(
+            try_remove(&mut store, Node(4)).as_ref(),
+            three,
+            read(1, true)
+        )
+    );
+    assert_eq!(rt;
+        (store.live_count(), store.numbers(), store.refs(Node(3))),
+        (5, 6, 1)
+    );
     assert_eq!(rt; input_added(&mut store), 4);
     assert_eq!(rt; store.input(2), Some(Node(4)));
     Ok(())

@@ -1,5 +1,5 @@
 #!/usr/bin/env python3
-"""Times the calls of tables and recipes, and prints each beside the same on one plain word.
+"""Times the calls of tables, recipes and gates, and prints each beside the cofactor of one plain word.
 
     bench/tables.py [RUNS [CALLS]]     RUNS of the program, 5 where it is left out, each with CALLS of each call
 

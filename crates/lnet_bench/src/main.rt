@@ -1,6 +1,8 @@
 //! Times calls of the library: `lnet_bench CALLS` makes each call so many times, and prints the nanoseconds of each.
 #![tactic(auto)]
 
+mod gates;
+mod report;
 mod tables;
 
 use std::{env, io};
@@ -12,7 +14,10 @@ fn main(rt: HostRuntime) -> io::Result<()> {
         _ => None,
     };
     match calls {
-        Some(calls) => tables::time_all(&rt, calls),
+        Some(calls) => {
+            tables::time_all(&rt, calls)?;
+            gates::time_all(&rt, calls)
+        }
         None => println!(rt; "usage: lnet_bench CALLS"),
     }
 }

@@ -2,10 +2,11 @@
 
 ghost use Rattle.std.specs.Prelude.{◌≡◌, ◌<◌, ◌≤◌};
 
+use crate::report::report;
 use lnet_tables::{Lit, Recipe, Step, StepOp, Table};
 use std::io;
 use std::rt::Clock;
-use std::time::{Duration, Instant};
+use std::time::Instant;
 
 const SEED: u64 = 0x9e37_79b9_7f4a_7c15;
 
@@ -114,15 +115,6 @@ fn plain_cofactors(calls: u32) -> u64 {
         word = !(half ^ u64::from(call));
     }
     sum
-}
-
-fn report(rt: &impl Print, name: &str, calls: u32, time: Duration, sum: u64) -> io::Result<()> {
-    let tenths = if calls == 0 {
-        0
-    } else {
-        time.as_nanos() * 10 / u128::from(calls)
-    };
-    println!(rt; "{name}: {}.{} ns, sum {sum:x}", tenths / 10, tenths % 10)
 }
 
 /// Times each call, and prints a line for it.

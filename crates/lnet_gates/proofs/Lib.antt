@@ -3,7 +3,13 @@ pub mod RemadeMeans
 pub mod PlanLaws
 pub mod LaidInTurn
 pub mod Underway
-pub mod TablingLemmas
-pub mod GateRows
+pub mod Ascending
 pub mod LutKeys
 pub mod LutOnly
+pub mod WordLemmas
+pub mod SameFunction
+pub mod NeededSignals
+pub mod SignalOrder
+pub mod GateComputed
+pub mod NamedSignals
+pub mod FormLemmas

@@ -15,7 +15,7 @@ use Rattle.lnet_gates.specs.LutForms.{IsLutGate, AscendsFrom, IsTableKey, IsLutF
 use Rattle.lnet_gates.specs.Lawful.OperandLemmas.{by_test, untrue, eqb-same}
 use Rattle.lnet_gates.specs.Lawful.NodeFunctions.{IsIn, flip-self, unchanged, in-passes}
 use Rattle.lnet_gates.specs.Lawful.LutLaws.{stable, named-signals}
-use Rattle.lnet_gates.proofs.TablingLemmas.{Ascends, passing-ascends}
+use Rattle.lnet_gates.proofs.Ascending.{Ascends, passing-ascends}
 
 ascends-from : (ns : List ℕ) (n : ℕ) → Ascends ns → ((m : ℕ) → IsIn m ns → n ≤ m) → AscendsFrom n (map (signal_of false) ns)
 ascends-from [] n a from = tt

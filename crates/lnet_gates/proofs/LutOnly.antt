@@ -14,15 +14,22 @@ use Rattle.lnet_gates.specs.Gates.{GateValue, KeyValue, flip, row_of, operate}
 use Rattle.lnet_gates.specs.Operands.{read, IsNamedBy}
 use Rattle.lnet_gates.specs.NormalLaws.{keyed_gate, gate_reading, form_reading}
 use Rattle.lnet_gates.specs.LutForms.{AscendsFrom, IsTableKey, IsLutForm, grounded, all_false, changes_with, support, assigned, lowest_bits, table_of, signal_of, form_over, function_of, bound_of, normal_lut}
-use Rattle.lnet_gates.specs.Tabling.{nodes_in}
 use Rattle.lnet_gates.specs.Lawful.OperandLemmas.{flip-comm, cond-true, cond-false, eqb-self, eqb-apart}
 use Rattle.lnet_gates.specs.Lawful.NodeFunctions.{IsIn, in-passing, in-passes, changes-below}
 use Rattle.lnet_gates.specs.Lawful.LutTables.{literal-form, flip-twice}
 use Rattle.lnet_gates.specs.Lawful.LutLaws.{reads-gate, changing-named, same-form}
-use Rattle.lnet_gates.proofs.TablingLemmas.{Ascends, ascends-one, passing-ascends}
-use Rattle.lnet_gates.proofs.GateRows.{length-nodes}
+use Rattle.lnet_gates.proofs.Ascending.{Ascends, ascends-one, passing-ascends}
 
 -- ---- plain signals in order
+
+-- the nodes of the signals
+abbrev nodes_in : List Signal → List ℕ
+nodes_in [] = []
+nodes_in (s ∷ ss) = s.node.0 ∷ nodes_in ss
+
+length-nodes : (ss : List Signal) → length (nodes_in ss) ≡ length ss
+length-nodes [] = refl
+length-nodes (s ∷ ss) = ap suc (length-nodes ss)
 
 signals-again : (ss : List Signal) (n : ℕ) → AscendsFrom n ss → ss ≡ map (signal_of false) (nodes_in ss)
 signals-again [] n a = refl

@@ -9,4 +9,4 @@ pub mod Laying
 pub mod Natives
 pub mod Lawful
 pub mod LutForms
-pub mod Tabling
+pub mod Wiring

@@ -14,6 +14,8 @@ mod signal;
 mod tabling;
 #[cfg(test)]
 mod tests;
+mod wiring;
+mod words;
 
 pub use forming::{normal_and, normal_maj, normal_xor};
 pub use gate::{Gate, Kind, Op};

@@ -36,32 +36,64 @@ fn lays(rt: &impl Abort, kind: Kind, op: Op, arity: u8, steps: &[Step], root: u1
     assert_eq!(rt; recipe.root(), Lit(root));
 }
 
+fn and(a: u16, b: u16) -> Step {
+    step(StepOp::And, a, b, 0)
+}
+
+fn is_native(kind: Kind, op: Op, arity: u8) -> bool
+    requires { Takes op arity }
+{
+    kind.has(&op) && matches!(kind.plan(&op, arity), Plan::Native)
+}
+
 #[test]
-fn plans_by_hand(rt: HostRuntime) {
-    let and = step(StepOp::And, 2, 4, 0);
-    let nor = step(StepOp::And, 3, 5, 0);
-    let third = step(StepOp::And, 6, 11, 0);
-    lays(&rt, Kind::Mig, Op::And, 2, &[step(StepOp::Maj, 0, 2, 4)], 6);
+fn plans_of_majority(rt: HostRuntime) {
+    let steps = [and(2, 4), and(3, 5), and(6, 11), and(9, 13)];
+    lays(&rt, Kind::Aig, Op::Maj, 3, &steps, 15);
+    lays(&rt, Kind::Xag, Op::Maj, 3, &steps, 15);
+    assert!(rt; is_native(Kind::Mig, Op::Maj, 3));
+    assert!(rt; is_native(Kind::Klut, Op::Maj, 3));
+}
+
+#[test]
+fn plans_of_xor(rt: HostRuntime) {
     lays(
         &rt,
-        Kind::Xag,
-        Op::Maj,
-        3,
-        &[and, nor, third, step(StepOp::And, 9, 13, 0)],
-        15,
+        Kind::Aig,
+        Op::Xor,
+        2,
+        &[and(2, 5), and(3, 4), and(7, 9)],
+        11,
     );
-    let left = step(StepOp::And, 4, 3, 0);
-    let right = step(StepOp::And, 5, 2, 0);
+    let both = step(StepOp::Maj, 0, 2, 4);
+    let neither = step(StepOp::Maj, 0, 3, 5);
+    let one = step(StepOp::Maj, 0, 7, 9);
+    lays(&rt, Kind::Mig, Op::Xor, 2, &[both, neither, one], 10);
+    assert!(rt; is_native(Kind::Xag, Op::Xor, 2));
+    assert!(rt; is_native(Kind::Klut, Op::Xor, 2));
+}
+
+#[test]
+fn plans_of_and(rt: HostRuntime) {
+    lays(&rt, Kind::Mig, Op::And, 2, &[step(StepOp::Maj, 0, 2, 4)], 6);
+    assert!(rt; is_native(Kind::Aig, Op::And, 2));
+    assert!(rt; is_native(Kind::Xag, Op::And, 2));
+    assert!(rt; is_native(Kind::Klut, Op::And, 2));
+}
+
+#[test]
+fn plans_of_tables(rt: HostRuntime) {
+    lays(&rt, Kind::Aig, Op::Lut(0x1), 0, &[], 1);
+    lays(&rt, Kind::Mig, Op::Lut(0x1), 1, &[], 3);
     lays(
         &rt,
         Kind::Aig,
         Op::Lut(0x6),
         2,
-        &[left, right, step(StepOp::And, 7, 9, 0)],
+        &[and(4, 3), and(5, 2), and(7, 9)],
         11,
     );
-    assert!(rt; Kind::Klut.has(&Op::Lut(0x6)));
-    assert!(rt; matches!(Kind::Mig.plan(&Op::Maj, 3), Plan::Native));
+    assert!(rt; is_native(Kind::Klut, Op::Lut(0x6), 2));
 }
 
 /// The normal form of a gate and the kind's plan of its operation, through the kind as a type.

@@ -11,3 +11,6 @@ pub mod Numbers
 pub mod Rising
 pub mod Stored
 pub mod References
+pub mod WorkedRows
+pub mod Removals
+pub mod Settings

@@ -14,11 +14,11 @@ use Rattle.lnet_edge.specs.declared.circuit.WireRef.{WireRef}
 use Rattle.lnet_edge.specs.declared.circuit.OutputPort.{OutputPort}
 use Rattle.lnet_edge.specs.Circuits.{CircuitValue, EquationValue, AllFrom, IsOutputOf, IsInOrder}
 use Rattle.lnet_edge.specs.Values.{equation_at, complemented, all_bits, under_rule, driven, input_or, ref_value, wire_value, circuit_outputs}
-use Rattle.lnet_network.specs.Listed.{numbers_from, listed_entries, listed, IsListed}
-use Rattle.lnet_network.proofs.Numbered.{entries-numbered, length-numbers_from}
-use Rattle.lnet_network.proofs.Entries.{length-map}
-use Rattle.lnet_network.proofs.Whole.{listed-Acyclic}
-use Rattle.lnet_network.proofs.NodeValues.{constant_value, input_value, and_value}
+use Rattle.lnet_listed.specs.Listed.{numbers_from, listed_entries, listed, IsListed}
+use Rattle.lnet_listed.proofs.Numbered.{entries-numbered, length-numbers_from}
+use Rattle.lnet_listed.proofs.Entries.{length-map}
+use Rattle.lnet_listed.proofs.Whole.{listed-Acyclic}
+use Rattle.lnet_listed.proofs.NodeValues.{constant_value, input_value, and_value}
 use Rattle.lnet_netio.specs.Built.{signal_of, built_nodes, built, entry_equation, exported}
 use Rattle.lnet_netio.specs.Parts.{equation_gate, port_signal, port_of, output_of}
 use Rattle.lnet_netio.proofs.Numbering.{gates_of, signals_of, nodes-numbered, built-listed, listed-fits}

@@ -12,9 +12,9 @@ use Rattle.lnet_edge.specs.declared.circuit.WireRef.{WireRef}
 use Rattle.lnet_edge.specs.declared.circuit.InputPort.{InputPort}
 use Rattle.lnet_edge.specs.declared.circuit.OutputPort.{OutputPort}
 use Rattle.lnet_edge.specs.Circuits.{CircuitValue, EquationValue, AllFrom, IsInputAt, IsGateAt, IsOutputOf, IsInOrder}
-use Rattle.lnet_network.specs.Listed.{numbered, numbers_from, input_entries, listed_entries, listed, and_gate, IsAndAt, AreAndsFrom, AreUpTo, IsListed}
-use Rattle.lnet_network.proofs.Numbered.{numbered-append, length-numbers_from}
-use Rattle.lnet_network.proofs.Entries.{length-input_entries, length-map, entries-listed}
+use Rattle.lnet_listed.specs.Listed.{numbered, numbers_from, input_entries, listed_entries, listed, and_gate, IsAndAt, AreAndsFrom, AreUpTo, IsListed}
+use Rattle.lnet_listed.proofs.Numbered.{numbered-append, length-numbers_from}
+use Rattle.lnet_listed.proofs.Entries.{length-input_entries, length-map, entries-listed}
 use Rattle.lnet_netio.specs.Built.{signal_of, gate_of, input_nodes, gate_node, built_nodes, ref_of, gate_equation, entry_equation, exported}
 use Rattle.lnet_netio.specs.Parts.{equation_gate, port_signal, port_of, output_of, equation_of, equations_from}
 

@@ -9,7 +9,7 @@ use Rattle.lnet_edge.specs.declared.circuit.InputPort.{InputPort}
 use Rattle.lnet_edge.specs.declared.circuit.OutputPort.{OutputPort}
 use Rattle.lnet_edge.specs.Circuits.{CircuitValue, EquationValue, AllFrom, IsGateAt, IsInOrder}
 use Rattle.lnet_edge.specs.CircuitLists.{equation_view, equation_views}
-use Rattle.lnet_network.specs.Listed.{numbers_from, listed, IsListed}
+use Rattle.lnet_listed.specs.Listed.{numbers_from, listed, IsListed}
 use Rattle.lnet_netio.specs.Built.{built, exported}
 use Rattle.lnet_netio.specs.Parts.{equation_gate, port_signal, FitsGate, port_of, output_of, equation_of, equations_from}
 use Rattle.lnet_netio.proofs.Numbering.{gates_of, signals_of, built-listed, listed-fits}

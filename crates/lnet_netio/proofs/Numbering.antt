@@ -9,9 +9,9 @@ use Rattle.lnet_model.specs.Networks.{Entry, Constant, Input, IsGate, NetworkVal
 use Rattle.lnet_edge.specs.declared.circuit.InputPort.{InputPort}
 use Rattle.lnet_edge.specs.declared.circuit.OutputPort.{OutputPort}
 use Rattle.lnet_edge.specs.Circuits.{CircuitValue, EquationValue, AllFrom, IsInputAt, IsGateAt, IsOutputOf, IsInOrder}
-use Rattle.lnet_network.specs.Listed.{numbered, numbers_from, input_entries, listed_entries, listed, and_gate, AreAndsFrom, AreUpTo, IsListed}
-use Rattle.lnet_network.proofs.Numbered.{numbered-append}
-use Rattle.lnet_network.proofs.Entries.{length-input_entries, length-map}
+use Rattle.lnet_listed.specs.Listed.{numbered, numbers_from, input_entries, listed_entries, listed, and_gate, AreAndsFrom, AreUpTo, IsListed}
+use Rattle.lnet_listed.proofs.Numbered.{numbered-append}
+use Rattle.lnet_listed.proofs.Entries.{length-input_entries, length-map}
 use Rattle.lnet_netio.specs.Built.{signal_of, input_nodes, gate_node, built_nodes, built}
 use Rattle.lnet_netio.specs.Parts.{equation_gate, port_signal}
 

@@ -11,7 +11,7 @@ ghost use Rattle.lnet_netio.specs.Parts.{equation_gate, port_signal, FitsGate};
 use arrayvec::ArrayVec;
 use lnet_edge::{Circuit, Equation, OutputPort, Rule, WireRef};
 use lnet_gates::{Gate, Node, Op, Signal};
-use lnet_network::Network;
+use lnet_listed::Network;
 use std::alloc::{AllocError, Global};
 
 /// The network that a circuit describes: the node of a wire is its number, and each equation is a gate.

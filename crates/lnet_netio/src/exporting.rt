@@ -5,13 +5,13 @@ ghost use Rattle.lnet_model.specs.Values.{network_outputs};
 ghost use Rattle.lnet_edge.specs.Circuits.{IsInOrder};
 ghost use Rattle.lnet_edge.specs.CircuitLists.{equation_view, equation_views};
 ghost use Rattle.lnet_edge.specs.Values.{circuit_outputs};
-ghost use Rattle.lnet_network.specs.Listed.{numbers_from};
+ghost use Rattle.lnet_listed.specs.Listed.{numbers_from};
 ghost use Rattle.lnet_netio.specs.Built.{ref_of, exported};
 ghost use Rattle.lnet_netio.specs.Parts.{port_of, output_of, equation_of, equations_from};
 
 use lnet_edge::{Circuit, Equation, InputPort, OutputPort, Rule, Wire, WireRef};
 use lnet_gates::{Gate, Signal};
-use lnet_network::Network;
+use lnet_listed::Network;
 use smallvec::SmallVec;
 use std::alloc::{AllocError, Global};
 

@@ -12,3 +12,4 @@ pub mod Rewired
 pub mod Ranked
 pub mod Classes
 pub mod Examples
+pub mod Marked

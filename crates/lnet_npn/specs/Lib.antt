@@ -1,3 +1,4 @@
 pub mod Transforms
 pub mod Exchanges
 pub mod Rewiring
+pub mod Marks

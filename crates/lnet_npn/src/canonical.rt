@@ -63,7 +63,7 @@ fn first_back(least: u16, word: u16) -> Transform
 }
 
 /// What the transforms of one order make of `word`, by their flips, without a complement of the value.
-fn images(word: u16, arrangement: &Arrangement) -> [u16; 16]
+pub(crate) fn images(word: u16, arrangement: &Arrangement) -> [u16; 16]
     requires { IsArrangement arrangement.now }
     ensures { (f : ℕ) → f < 16 → slice_index result f ≡ image_at arrangement.now.order f false word }
 {

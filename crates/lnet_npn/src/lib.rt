@@ -3,6 +3,7 @@
 
 mod canonical;
 mod exchanges;
+mod marking;
 mod rewiring;
 #[cfg(test)]
 mod tests;
@@ -10,4 +11,6 @@ mod transforms;
 mod words;
 
 pub use canonical::canonise;
+pub use marking::mark_class;
 pub use transforms::Transform;
+pub use words::{table_of, word_of};

@@ -6,16 +6,17 @@ ghost use Rattle.lnet_npn.specs.Transforms.{number_of};
 
 use lnet_tables::Table;
 
-/// The rows of a table as a number: row `r` is bit `r`.
-pub(crate) fn word_of(table: &Table) -> u16
+/// The rows of a table of up to four variables as a number: row `r` is bit `r`. Of a table of more variables the first
+/// sixteen rows. Constant time.
+pub fn word_of(table: &Table) -> u16
     ensures value { result ≡ number_of table.now }
     ensures table { table.now.vars ≡ 4 → table.now ≡ by_rows 4 (is_set result) }
 {
     (table.words()[0] % 0x10000) as u16
 }
 
-/// The table of four variables whose row `r` is bit `r` of `word`.
-pub(crate) fn table_of(word: u16) -> Table
+/// The table of four variables whose row `r` is bit `r` of `word`. Constant time.
+pub fn table_of(word: u16) -> Table
     ensures { result ≡ by_rows 4 (is_set word) }
 {
     let mut words = [0; 16];

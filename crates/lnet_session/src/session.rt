@@ -11,8 +11,8 @@ use crate::command::Command;
 use crate::reply::{Reply, Unmet, text_of_reply};
 use lnet_aiger::{ReadError, read, write_ascii};
 use lnet_edge::{FetchError, Files, Name, PutError, Sink};
+use lnet_listed::Network;
 use lnet_netio::{build, export};
-use lnet_network::Network;
 use std::alloc::Global;
 
 /// How a command ended.

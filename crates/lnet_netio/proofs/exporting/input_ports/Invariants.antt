@@ -1,5 +1,5 @@
 use Rattle.std.proofs.Common.{◌≡◌, map}
-use Rattle.lnet_network.specs.Listed.{numbers_from}
+use Rattle.lnet_listed.specs.Listed.{numbers_from}
 use Rattle.lnet_netio.specs.Parts.{port_of}
 use Rattle.lnet_netio.proofs.exporting.input_ports.Given as goal
 

@@ -1,0 +1,3 @@
+pub mod Majority
+pub mod Procedures
+pub mod Underway

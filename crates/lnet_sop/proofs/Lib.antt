@@ -1,0 +1,11 @@
+pub mod CubeRows
+pub mod TableRows
+pub mod Cubes
+pub mod Without
+pub mod TurnLaws
+pub mod Cleared
+pub mod Pushing
+pub mod Factors
+pub mod FormMeans
+pub mod FormLaws
+pub mod Examples

@@ -1,0 +1,4 @@
+pub mod Covers
+pub mod Isop
+pub mod Irredundant
+pub mod Factored

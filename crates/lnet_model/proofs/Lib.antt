@@ -7,6 +7,10 @@ pub mod Changes
 pub mod Slots
 pub mod Fan
 pub mod Levels
+pub mod Numbers
+pub mod Rising
+pub mod Stored
+pub mod References
 pub mod WorkedRows
 pub mod Removals
 pub mod Settings

@@ -1,0 +1,5 @@
+pub mod StoreValues
+pub mod Held
+pub mod Fields
+pub mod Remaining
+pub mod Search

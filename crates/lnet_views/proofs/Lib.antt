@@ -1,0 +1,10 @@
+pub mod Repair
+pub mod Count
+pub mod Pair
+pub mod Renewal
+pub mod Running
+pub mod Marking
+pub mod Bounds
+pub mod Events
+pub mod Steps
+pub mod Parents

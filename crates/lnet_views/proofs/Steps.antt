@@ -1,0 +1,88 @@
+-- What is kept as lists is in step where it is kept for a network, and the other way round.
+use Rattle.std.proofs.Common.{◌≡◌, ◌≢◌, ℕ, zero, suc, ◌+◌, ◌<◌, ◌≤◌, Bool, true, false, eqb, List, [], ◌∷◌, length, map, IsSome, Option, None, Some, refl, sym, ap, subst, ◌∙◌, inl, inr, arith, get_or}
+use Rattle.std.specs.Prelude.{◌&&◌, slice_get}
+use Rattle.lnet_gates.specs.declared.signal.Signal.{Signal}
+use Rattle.lnet_gates.specs.Gates.{GateValue}
+use Rattle.lnet_model.specs.Networks.{Entry, NetworkValue, entry_at, fanins_of, IsLive}
+use Rattle.lnet_model.specs.Along.{at_entry, over, Acyclic}
+use Rattle.lnet_model.specs.Levels.{level}
+use Rattle.lnet_model.specs.Dags.{AreBelow}
+use Rattle.lnet_model.proofs.Over.{over-once}
+use Rattle.lnet_views.specs.Repair.{IsLawful, pair_step, pair_eq}
+use Rattle.lnet_views.specs.Rules.{rule_step, made, IsInStep}
+use Rattle.lnet_views.specs.Keeping.{at_level, answer, IsSound, IsKept, scratch, paired, kept_at}
+use Rattle.lnet_views.proofs.Pair.{both, eqb-same, eqb-is, and-left, and-right, pair-lawful, pair-over}
+
+dead-scratch : {V : Type 0} (first : ℕ → V) (gives : ℕ → GateValue → List (Signal × V) → V) (P : NetworkValue) → Acyclic P → (x : ℕ) → entry_at P x ≡ None → scratch first gives P x ≡ (first 0, 0)
+dead-scratch {V} first gives P acyclic x dead = over-once P (pair_step (rule_step first gives)) (first 0, 0) acyclic x ∙ ap (at_entry (first 0, 0) (λ e. pair_step (rule_step first gives) x e (map {B = Signal × (V × ℕ)} (λ s. (s, over P (pair_step (rule_step first gives)) (first 0, 0) s.node.0)) (fanins_of e)))) dead
+
+-- what stands inside a list
+some-inside : {A : Type 0} (xs : List A) (n : ℕ) (d : A) → n < length xs → slice_get xs n ≡ Some (get_or xs n d)
+some-inside [] n d h = absurd (omega arith)
+some-inside (x ∷ xs) zero d h = refl
+some-inside (x ∷ xs) (suc n) d h = some-inside xs n d (omega arith)
+
+some-is : {A : Type 0} (xs : List A) (n : ℕ) (d v : A) → slice_get xs n ≡ Some v → get_or xs n d ≡ v
+some-is [] n d v e = let z : None ≡ Some v = e in cc
+some-is (x ∷ xs) zero d v e = let z : Some x ≡ Some v = e in cc
+some-is (x ∷ xs) (suc n) d v e = some-is xs n d v e
+
+none-past : {A B : Type 0} (xs : List A) (ys : List (Option B)) (n : ℕ) → length ys ≡ length xs → slice_get xs n ≡ None → get_or ys n None ≡ None
+none-past xs [] n len e = refl
+none-past [] (y ∷ ys) n len e = absurd (omega arith)
+none-past (x ∷ xs) (y ∷ ys) zero len e = let z : Some x ≡ None = e in cc
+none-past (x ∷ xs) (y ∷ ys) (suc n) len e = none-past xs ys n (omega arith) e
+
+some-of : {A : Type 0} (o : Option A) → IsSome o → (a : A) × (o ≡ Some a)
+some-of None h = let z : false ≡ true = h in cc
+some-of (Some a) h = (a, refl)
+
+-- what a pair tells of its halves
+pair-halves : {V : Type 0} (o : Option V) (p : Option ℕ) (a : V × ℕ) → paired o p ≡ Some a → (o ≡ Some a.0) × (p ≡ Some a.1)
+pair-halves None p a e = let z : None ≡ Some a = e in cc
+pair-halves (Some v) None a e = let z : None ≡ Some a = e in cc
+pair-halves (Some v) (Some l) a e = let z : Some (v, l) ≡ Some a = e in let w : (v, l) ≡ a = cc in (ap (λ (p : _ × ℕ). Some p.0) w, ap (λ (p : _ × ℕ). Some p.1) w)
+
+pair-none : {V : Type 0} (o : Option V) (p : Option ℕ) → paired o p ≡ None → (o ≡ None → p ≡ None) → p ≡ None
+pair-none None p e h = h refl
+pair-none (Some v) None e h = refl
+pair-none {V} (Some v) (Some l) e h = let z : ◌≡◌ {A = Option (V × ℕ)} (Some (v, l)) None = e in cc
+
+module _ {V : Type 0} (eq : V → V → Bool) (first : ℕ → V) (gives : ℕ → GateValue → List (Signal × V) → V) (N : NetworkValue) (acyclic : Acyclic N) (values : List V) (levels : List (Option ℕ)) where
+  pub to-step : (waits : List Bool) → IsKept eq first gives N values levels → IsSound N values levels waits → IsInStep eq first gives (kept_at values levels) N
+  unfolding kept_at
+  to-step waits kept S = record {
+    live = λ n live.
+      let l = some-of (get_or levels n None) (S.known n live) in
+      let is : answer (first 0) values levels n ≡ (get_or values n (first 0), l.0) = ap (at_level (first 0) (get_or values n (first 0))) l.1 in
+      let same : pair_eq eq (get_or values n (first 0), l.0) (made first gives N n, level N n) ≡ true = subst (λ z. pair_eq eq z (made first gives N n, level N n) ≡ true) is (subst (λ z. pair_eq eq (answer (first 0) values levels n) z ≡ true) (pair-over N (rule_step first gives) (first 0) acyclic n) (kept n)) in
+      ((get_or values n (first 0), l.0), (λ i. paired (some-inside values n (first 0) (S.room n live) i) (l.1 i)), and-left _ _ same, eqb-is _ _ (and-right _ _ same));
+    dead = λ n d. ap (paired (slice_get values n)) (S.dead n d) ∙ elim (slice_get values n) as (λ o. paired o None ≡ None) [ None ↦ refl | Some v ↦ refl ];
+  }
+
+  module _ (law : IsLawful eq (rule_step first gives)) (len : length levels ≡ length values) (K : IsInStep eq first gives (kept_at values levels) N) where
+    live-answer : (n : ℕ) → IsLive N n → (a : V × ℕ) × (get_or values n (first 0) ≡ a.0) × (get_or levels n None ≡ Some a.1) × (eq a.0 (made first gives N n) ≡ true) × (a.1 ≡ level N n)
+    unfolding kept_at
+    live-answer n live = let k = K.live n live in let h = pair-halves (slice_get values n) (get_or levels n None) k.0 k.1 in (k.0, some-is values n (first 0) k.0.0 h.0, h.1, k.2, k.3)
+
+    pub dead-level : (n : ℕ) → entry_at N n ≡ None → get_or levels n None ≡ None
+    unfolding kept_at
+    dead-level n d = pair-none (slice_get values n) (get_or levels n None) (K.dead n d) (none-past values levels n len)
+
+    pub from-kept : IsKept eq first gives N values levels
+    from-kept n = elim (entry_at N n) as (λ o. (entry_at N n ≡ o) → pair_eq eq (answer (first 0) values levels n) (scratch first gives N n) ≡ true) [
+      | None ↦ λ d. (let is : answer (first 0) values levels n ≡ (first 0, 0) = ap (at_level (first 0) (get_or values n (first 0))) (dead-level n d) in
+        (λ i. pair_eq eq (is i) (dead-scratch first gives N acyclic n d i)) ∙ both _ _ (law.same (first 0)) refl)
+      | Some e ↦ λ d. (let k = live-answer n (subst IsSome (sym d) refl) in
+        let is : answer (first 0) values levels n ≡ k.0 = (λ i. at_level (first 0) (k.1 i) (k.2 i)) in
+        (λ i. pair_eq eq (is i) (pair-over N (rule_step first gives) (first 0) acyclic n i)) ∙ both _ _ k.3 (eqb-same _ _ k.4))
+    ] refl
+
+    pub from-sound : (waits : List Bool) → length waits ≡ length values → AreBelow N (length values) → IsSound N values levels waits
+    from-sound waits same room = record {
+      levels_len = len;
+      waits_len = same;
+      room = room;
+      known = λ n live. let k = live-answer n live in subst IsSome (sym k.2) refl;
+      dead = dead-level;
+    }

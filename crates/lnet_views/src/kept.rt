@@ -1,0 +1,88 @@
+//! What is kept by number: values, levels, and marks of the numbers that wait.
+
+ghost use Rattle.std.specs.Prelude.{◌≡◌, ℕ, ◌+◌, ◌<◌, ◌≤◌, ◌↔◌, length, slice_index_or, slice_set, MatchOption, IsSome, IsTrue, true, false, Some, None};
+ghost use Rattle.lnet_model.specs.Dags.{NUMBERS};
+ghost use Rattle.lnet_views.specs.Repair.{pair_eq, IsNext};
+ghost use Rattle.lnet_views.specs.Keeping.{answer, mark, height, tallest};
+
+use lnet_gates::{Gate, Node};
+
+/// Lists of one length: by number a value, a level where the number is live, and whether it waits for its repair.
+#[derive(Drop)]
+pub struct Kept<V> {
+    pub values: Vec<V>,
+    pub levels: Vec<Option<u32>>,
+    pub waits: Vec<bool>,
+}
+
+/// The level kept for a number, 0 where there is none.
+fn height_of(levels: &Vec<Option<u32>>, n: Node) -> u32
+    ensures { result ≡ height levels.now.items n.0 }
+{
+    match levels.get(n.0 as usize) {
+        Some(Some(level)) => *level,
+        _ => 0,
+    }
+}
+
+/// The level of a gate over those kept for its fanins.
+pub fn level_above(levels: &Vec<Option<u32>>, gate: &Gate) -> u32
+    requires small { (n : ℕ) → height levels.now.items n ≤ NUMBERS }
+    ensures { result ≡ 1 + tallest levels.now.items gate.now.fanins }
+{
+    let mut top = 0;
+    for s in gate.fanins.as_slice() {
+        top = height_of(levels, s.node).max(top);
+    }
+    1 + top
+}
+
+/// Whether this value and level are those that are kept for the number.
+pub fn is_same<V: Eq>(values: &Vec<V>, levels: &Vec<Option<u32>>, n: Node, value: &V, level: u32) -> bool
+    requires values { n.0 < length values.now.items }
+    requires levels { length levels.now.items ≡ length values.now.items }
+    requires known { IsSome (slice_index_or levels.now.items n.0 None) }
+    ensures { (none : V) → result ≡ pair_eq V.eq (value.now, level) (answer none values.now.items levels.now.items n.0) }
+{
+    let at = n.0 as usize;
+    levels[at] == Some(level) && *value == values[at]
+}
+
+/// Keeps a value and a level for the number, which then doesn't wait.
+pub fn place<V: Drop>(kept: &mut Kept<V>, n: Node, value: V, level: u32)
+    requires values { n.0 < length kept.old.values.items }
+    requires levels { length kept.old.levels.items ≡ length kept.old.values.items }
+    requires waits { length kept.old.waits.items ≡ length kept.old.values.items }
+    ensures values { kept.new.values.items ≡ slice_set kept.old.values.items n.0 value }
+    ensures levels { kept.new.levels.items ≡ slice_set kept.old.levels.items n.0 (Some level) }
+    ensures waits { kept.new.waits.items ≡ slice_set kept.old.waits.items n.0 false }
+{
+    let at = n.0 as usize;
+    kept.values[at] = value;
+    kept.levels[at] = Some(level);
+    kept.waits[at] = false;
+}
+
+/// Of the numbers that wait the first of the lowest level.
+pub fn next_waiting(levels: &Vec<Option<u32>>, waits: &Vec<bool>) -> Option<Node>
+    requires few { length waits.now.items ≤ 4294967295 }
+    ensures { MatchOption result ((m : ℕ) → mark waits.now.items m ≡ false) (λ n. IsNext (height levels.now.items) (mark waits.now.items) n.0) }
+{
+    let mut best = None;
+    for i in 0..waits.len() as u32 {
+        if waits[i as usize] && is_lower(levels, Node(i), best) {
+            best = Some(Node(i));
+        }
+    }
+    best
+}
+
+/// Whether the number's level is lower than that of the best so far.
+fn is_lower(levels: &Vec<Option<u32>>, n: Node, best: Option<Node>) -> bool
+    ensures { MatchOption best (result ≡ true) (λ b. IsTrue result ↔ (height levels.now.items n.0 < height levels.now.items b.0)) }
+{
+    match best {
+        Some(best) => height_of(levels, n) < height_of(levels, best),
+        None => true,
+    }
+}

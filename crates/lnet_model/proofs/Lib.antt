@@ -7,3 +7,6 @@ pub mod Changes
 pub mod Slots
 pub mod Fan
 pub mod Levels
+pub mod WorkedRows
+pub mod Removals
+pub mod Settings

@@ -10,3 +10,4 @@ pub mod Answers
 pub mod Visits
 pub mod Dags
 pub mod Slots
+pub mod Worked

@@ -111,7 +111,7 @@ fn repair<R: Rule>(kept: &mut Kept<R::Value>, rule: &R, n: Node, old: &Gate, loo
     ensures stamp { visits.new.stamp ≡ visits.old.stamp }
     ensures visits { visits.new.count ≤ visits.old.count + reads_of look.now.network (λ x. not (pair_eq R.Value.eq (scratch (R.first_of rule.now) (R.gives rule.now) look.now.network x) (scratch (R.first_of rule.now) (R.gives rule.now) (with_entry look.now.network n.0 (IsGate old.now)) x))) }
 {
-    let _live = look.live_count();
+    let _live_count = look.live_count();
     kept.waits[n.0 as usize] = true;
     'repairs: loop {
         match next_waiting(&kept.levels, &kept.waits) {

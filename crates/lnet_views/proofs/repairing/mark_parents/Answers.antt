@@ -1,11 +1,12 @@
 use Rattle.std.proofs.Common.{arith, refl, sym, ◌∙◌, ap, length, ◌+◌, ◌≤◌, ◌≡◌, suc}
 use Rattle.lnet_views.specs.Keeping.{waiting}
 use Rattle.lnet_views.proofs.Marking.{marking-start, marking-inside, marking-step, waiting-step, marking-end}
+use Rattle.lnet_views.proofs.Parents.{each-parent, all-parents}
 use Rattle.lnet_views.proofs.repairing.mark_parents.Goals as goal
 
 pub steps-init : goal.steps-init
 steps-init c = record {
-  marking = marking-start _ _ _ _ c.parents-parents.ensures.each c.parents-parents.ensures.all;
+  marking = marking-start _ _ _ _ (each-parent c.args.look.now.network c.args.n.0 c.parents-parents.result.rest c.parents-parents.ensures.each) (all-parents c.args.look.now.network c.args.n.0 c.parents-parents.result.rest c.parents-parents.ensures.all);
   own = c.parents-parents.ensures.stamp;
   stamp = refl;
   more = let e = c.parents-parents.ensures.len in omega arith;

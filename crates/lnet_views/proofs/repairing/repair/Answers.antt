@@ -35,20 +35,20 @@ repairs-init g c =
 
 pub repairs-smaller : goal.repairs-smaller
 repairs-smaller g c =
-    let more = spread-step g.R.Value.PartialEq.eq (g.R.Rule.first_of c.args.rule.now) (g.R.Rule.gives c.args.rule.now) (rule-lawful g.R.Value.PartialEq.eq (g.R.Rule.first_of c.args.rule.now) (g.R.Rule.gives c.args.rule.now) g.met.R.Value.Eq.laws (g.met.R.Rule.agrees c.args.rule.now)) (with_entry c.args.look.now.network c.args.n.0 (IsGate c.args.old.now)) c.args.look.now.network c.args.n.0 c.requires.before.acyclic c.requires.stored.dag.acyclic (with_entry-apart c.args.look.now.network c.args.n.0 (IsGate c.args.old.now)) c.args.kept.now.values.items c.args.kept.now.levels.items c.requires.in_step c.repairs.kept.values.items c.repairs.kept.levels.items c.repairs.kept.waits.items c.repairs.invariant.running c.in-Some.next c.in-Some.ensures c.settle.new.kept.values.items c.settle.new.kept.levels.items c.settle.new.kept.waits.items c.settle.ensures.sound c.settle.ensures.settled in
+    let more = spread-step g.R.Value.PartialEq.eq (g.R.Rule.first_of c.args.rule.now) (g.R.Rule.gives c.args.rule.now) (rule-lawful g.R.Value.PartialEq.eq (g.R.Rule.first_of c.args.rule.now) (g.R.Rule.gives c.args.rule.now) g.met.R.Value.Eq.laws (g.met.R.Rule.agrees c.args.rule.now)) (with_entry c.args.look.now.network c.args.n.0 (IsGate c.args.old.now)) c.args.look.now.network c.args.n.0 c.requires.before.acyclic c.requires.stored.dag.acyclic (with_entry-apart c.args.look.now.network c.args.n.0 (IsGate c.args.old.now)) c.args.kept.now.values.items c.args.kept.now.levels.items c.requires.in_step c.repairs.kept.values.items c.repairs.kept.levels.items c.repairs.kept.waits.items c.repairs.invariant.running c.in-Some.next.0 c.in-Some.ensures c.settle.new.kept.values.items c.settle.new.kept.levels.items c.settle.new.kept.waits.items c.settle.ensures.sound c.settle.ensures.settled in
     let limit = spread-limit g.R.Value.PartialEq.eq (g.R.Rule.first_of c.args.rule.now 0) c.args.look.now.network c.args.kept.now.values.items c.args.kept.now.levels.items c.settle.new.kept.values.items c.settle.new.kept.levels.items in
     let fewer = c.settle.ensures.fewer in
     omega arith
 
 pub repairs-preserved : goal.repairs-preserved
 repairs-preserved g c =
-    let more = spread-step g.R.Value.PartialEq.eq (g.R.Rule.first_of c.args.rule.now) (g.R.Rule.gives c.args.rule.now) (rule-lawful g.R.Value.PartialEq.eq (g.R.Rule.first_of c.args.rule.now) (g.R.Rule.gives c.args.rule.now) g.met.R.Value.Eq.laws (g.met.R.Rule.agrees c.args.rule.now)) (with_entry c.args.look.now.network c.args.n.0 (IsGate c.args.old.now)) c.args.look.now.network c.args.n.0 c.requires.before.acyclic c.requires.stored.dag.acyclic (with_entry-apart c.args.look.now.network c.args.n.0 (IsGate c.args.old.now)) c.args.kept.now.values.items c.args.kept.now.levels.items c.requires.in_step c.repairs.kept.values.items c.repairs.kept.levels.items c.repairs.kept.waits.items c.repairs.invariant.running c.in-Some.next c.in-Some.ensures c.settle.new.kept.values.items c.settle.new.kept.levels.items c.settle.new.kept.waits.items c.settle.ensures.sound c.settle.ensures.settled in
+    let more = spread-step g.R.Value.PartialEq.eq (g.R.Rule.first_of c.args.rule.now) (g.R.Rule.gives c.args.rule.now) (rule-lawful g.R.Value.PartialEq.eq (g.R.Rule.first_of c.args.rule.now) (g.R.Rule.gives c.args.rule.now) g.met.R.Value.Eq.laws (g.met.R.Rule.agrees c.args.rule.now)) (with_entry c.args.look.now.network c.args.n.0 (IsGate c.args.old.now)) c.args.look.now.network c.args.n.0 c.requires.before.acyclic c.requires.stored.dag.acyclic (with_entry-apart c.args.look.now.network c.args.n.0 (IsGate c.args.old.now)) c.args.kept.now.values.items c.args.kept.now.levels.items c.requires.in_step c.repairs.kept.values.items c.repairs.kept.levels.items c.repairs.kept.waits.items c.repairs.invariant.running c.in-Some.next.0 c.in-Some.ensures c.settle.new.kept.values.items c.settle.new.kept.levels.items c.settle.new.kept.waits.items c.settle.ensures.sound c.settle.ensures.settled in
     let count = c.settle.ensures.count in
     let before = c.repairs.invariant.count in
-    let twice = cond-twice (pair_eq g.R.Value.PartialEq.eq (answer (g.R.Rule.first_of c.args.rule.now 0) c.settle.new.kept.values.items c.settle.new.kept.levels.items c.in-Some.next) (answer (g.R.Rule.first_of c.args.rule.now 0) c.repairs.kept.values.items c.repairs.kept.levels.items c.in-Some.next)) (length (fan c.args.look.now.network c.in-Some.next)) in
+    let twice = cond-twice (pair_eq g.R.Value.PartialEq.eq (answer (g.R.Rule.first_of c.args.rule.now 0) c.settle.new.kept.values.items c.settle.new.kept.levels.items c.in-Some.next.0) (answer (g.R.Rule.first_of c.args.rule.now 0) c.repairs.kept.values.items c.repairs.kept.levels.items c.in-Some.next.0)) (length (fan c.args.look.now.network c.in-Some.next.0)) in
     let len = c.settle.ensures.len in
     record {
-      running = run-step g.R.Value.PartialEq.eq (g.R.Rule.first_of c.args.rule.now) (g.R.Rule.gives c.args.rule.now) (rule-lawful g.R.Value.PartialEq.eq (g.R.Rule.first_of c.args.rule.now) (g.R.Rule.gives c.args.rule.now) g.met.R.Value.Eq.laws (g.met.R.Rule.agrees c.args.rule.now)) (with_entry c.args.look.now.network c.args.n.0 (IsGate c.args.old.now)) c.args.look.now.network c.args.n.0 c.requires.before.acyclic c.requires.stored.dag.acyclic (with_entry-apart c.args.look.now.network c.args.n.0 (IsGate c.args.old.now)) c.args.kept.now.values.items c.args.kept.now.levels.items c.requires.in_step c.repairs.kept.values.items c.repairs.kept.levels.items c.repairs.kept.waits.items c.repairs.invariant.running c.in-Some.next c.in-Some.ensures c.settle.new.kept.values.items c.settle.new.kept.levels.items c.settle.new.kept.waits.items c.settle.ensures.sound c.settle.ensures.settled (level-limit c.args.look.now.network c._live.ensures.limit);
+      running = run-step g.R.Value.PartialEq.eq (g.R.Rule.first_of c.args.rule.now) (g.R.Rule.gives c.args.rule.now) (rule-lawful g.R.Value.PartialEq.eq (g.R.Rule.first_of c.args.rule.now) (g.R.Rule.gives c.args.rule.now) g.met.R.Value.Eq.laws (g.met.R.Rule.agrees c.args.rule.now)) (with_entry c.args.look.now.network c.args.n.0 (IsGate c.args.old.now)) c.args.look.now.network c.args.n.0 c.requires.before.acyclic c.requires.stored.dag.acyclic (with_entry-apart c.args.look.now.network c.args.n.0 (IsGate c.args.old.now)) c.args.kept.now.values.items c.args.kept.now.levels.items c.requires.in_step c.repairs.kept.values.items c.repairs.kept.levels.items c.repairs.kept.waits.items c.repairs.invariant.running c.in-Some.next.0 c.in-Some.ensures c.settle.new.kept.values.items c.settle.new.kept.levels.items c.settle.new.kept.waits.items c.settle.ensures.sound c.settle.ensures.settled (level-limit c.args.look.now.network c.live_count-live_count.ensures.limit);
       len = len ∙ c.repairs.invariant.len;
       stamp = c.settle.ensures.stamp ∙ c.repairs.invariant.stamp;
       count = omega arith;

@@ -8,3 +8,4 @@ pub mod Bounds
 pub mod Events
 pub mod Steps
 pub mod Parents
+pub mod FromScratch

@@ -1,3 +1,4 @@
 pub mod Repair
 pub mod Rules
 pub mod Keeping
+pub mod Building

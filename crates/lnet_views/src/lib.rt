@@ -1,6 +1,7 @@
 //! Views that follow a network event by event.
 #![tactic(auto)]
 
+mod building;
 mod kept;
 mod repairing;
 mod rule;

@@ -1,0 +1,99 @@
+//! Answers from scratch: each node once, a gate after its fanins.
+//!
+//! The gates whose fanins are being computed stand on a stack, each a fanin of the one below it. So nothing is called along
+//! the depth of the network, and each gate comes onto the stack once. Source: depth-first search with a stack of its own.
+
+ghost use Rattle.std.specs.Prelude.{◌≡◌, ◌≢◌, ℕ, ◌+◌, ◌<◌, ◌≤◌, [], length, slice_index_or, is_some, IsSome, OnOk, MatchOption, None};
+ghost use Rattle.lnet_model.specs.Networks.{IsLive, entry_at, live_count};
+ghost use Rattle.lnet_model.specs.Along.{In, fanin_nodes, nodes_read};
+ghost use Rattle.lnet_model.specs.Dags.{IsDag, IsStored, NUMBERS, numbers_of};
+ghost use Rattle.lnet_views.specs.Repair.{pair_eq};
+ghost use Rattle.lnet_views.specs.Rules.{rule_step};
+ghost use Rattle.lnet_views.specs.Keeping.{answer, mark, height, IsSound, IsKept};
+ghost use Rattle.lnet_views.specs.Building.{IsBuilding, undone};
+
+use crate::kept::{Kept, level_above, place};
+use crate::rule::Rule;
+use lnet_gates::{Gate, Node};
+use lnet_store::Store;
+use std::alloc::AllocError;
+
+/// Whether the number has a level.
+fn is_done(levels: &Vec<Option<u32>>, n: Node) -> bool
+    ensures { result ≡ is_some (slice_index_or levels.now.items n.0 None) }
+{
+    match levels.get(n.0 as usize) {
+        Some(Some(_)) => true,
+        _ => false,
+    }
+}
+
+/// The first of the gate's fanins that has no level yet.
+fn first_undone(levels: &Vec<Option<u32>>, gate: &Gate) -> Option<Node>
+    ensures { MatchOption result ((m : ℕ) → In m (nodes_read gate.now.fanins) → IsSome (slice_index_or levels.now.items m None)) (λ m. In m.0 (nodes_read gate.now.fanins) × (slice_index_or levels.now.items m.0 None ≡ None)) }
+{
+    for s in gate.fanins.as_slice() {
+        if !is_done(levels, s.node) {
+            return Some(s.node);
+        }
+    }
+    None
+}
+
+/// Computes the answer at a live number that has none, or tells a fanin of it that has none.
+fn visit<R: Rule>(kept: &mut Kept<R::Value>, rule: &R, n: Node, store: &Store) -> Option<Node>
+    requires stored { IsStored store.now.network }
+    requires small { live_count store.now.network ≤ NUMBERS }
+    requires live { IsLive store.now.network n.0 }
+    requires todo { slice_index_or kept.old.levels.items n.0 None ≡ None }
+    requires building { IsBuilding R.Value.eq (R.first_of rule.now) (R.gives rule.now) store.now.network kept.old.values.items kept.old.levels.items kept.old.waits.items }
+    ensures building { IsBuilding R.Value.eq (R.first_of rule.now) (R.gives rule.now) store.now.network kept.new.values.items kept.new.levels.items kept.new.waits.items }
+    ensures len { length kept.new.levels.items ≡ length kept.old.levels.items }
+    ensures same { (q : ℕ) → q ≢ n.0 → slice_index_or kept.new.levels.items q None ≡ slice_index_or kept.old.levels.items q None }
+    ensures step { MatchOption result (IsSome (slice_index_or kept.new.levels.items n.0 None) × (undone kept.new.levels.items + 1 ≡ undone kept.old.levels.items)) (λ m. (kept.new.levels.items ≡ kept.old.levels.items) × In m.0 (fanin_nodes (entry_at store.now.network n.0)) × (slice_index_or kept.old.levels.items m.0 None ≡ None)) }
+{
+    match store.gate_of(n) {
+        Some(gate) => match first_undone(&kept.levels, gate) {
+            Some(fanin) => Some(fanin),
+            None => {
+                let value = rule.of(n, gate, kept.values.as_slice());
+                let level = level_above(&kept.levels, gate);
+                place(kept, n, value, level);
+                None
+            }
+        },
+        None => {
+            place(kept, n, rule.first(n), 0);
+            None
+        }
+    }
+}
+
+/// Computes the answer at a live number that has none, and before it those that it needs.
+fn complete<R: Rule>(kept: &mut Kept<R::Value>, rule: &R, n: Node, store: &Store, stack: &mut Vec<Node>) -> Result<(), AllocError>
+    requires stored { IsStored store.now.network }
+    requires small { live_count store.now.network ≤ NUMBERS }
+    requires live { IsLive store.now.network n.0 }
+    requires todo { slice_index_or kept.old.levels.items n.0 None ≡ None }
+    requires empty { stack.old.items ≡ [] }
+    requires building { IsBuilding R.Value.eq (R.first_of rule.now) (R.gives rule.now) store.now.network kept.old.values.items kept.old.levels.items kept.old.waits.items }
+    ensures building { IsBuilding R.Value.eq (R.first_of rule.now) (R.gives rule.now) store.now.network kept.new.values.items kept.new.levels.items kept.new.waits.items }
+    ensures len { length kept.new.levels.items ≡ length kept.old.levels.items }
+    ensures grows { (q : ℕ) → IsSome (slice_index_or kept.old.levels.items q None) → IsSome (slice_index_or kept.new.levels.items q None) }
+    ensures done { OnOk result (IsSome (slice_index_or kept.new.levels.items n.0 None)) }
+    ensures empty { OnOk result (stack.new.items ≡ []) }
+{
+    let mut at = n;
+    'steps: loop {
+        match visit(kept, rule, at, store) {
+            Some(fanin) => {
+                stack.push(at)?;
+                at = fanin;
+            }
+            None => match stack.pop() {
+                Some(below) => at = below,
+                None => return Ok(()),
+            },
+        }
+    }
+}

@@ -97,3 +97,22 @@ fn complete<R: Rule>(kept: &mut Kept<R::Value>, rule: &R, n: Node, store: &Store
         }
     }
 }
+
+/// Computes the answer at each live number.
+fn complete_all<R: Rule>(kept: &mut Kept<R::Value>, rule: &R, store: &Store) -> Result<(), AllocError>
+    requires room { numbers_of store.now.network ≤ length kept.old.values.items }
+    requires building { IsBuilding R.Value.eq (R.first_of rule.now) (R.gives rule.now) store.now.network kept.old.values.items kept.old.levels.items kept.old.waits.items }
+    ensures building { IsBuilding R.Value.eq (R.first_of rule.now) (R.gives rule.now) store.now.network kept.new.values.items kept.new.levels.items kept.new.waits.items }
+    ensures len { length kept.new.levels.items ≡ length kept.old.levels.items }
+    ensures done { OnOk result ((m : ℕ) → IsLive store.now.network m → IsSome (slice_index_or kept.new.levels.items m None)) }
+{
+    let mut stack = Vec::new(*kept.levels.allocator());
+    let (look, _visits) = store.look();
+    let _live_count = look.live_count();
+    for i in 0..store.numbers() {
+        if store.is_live(Node(i)) && !is_done(&kept.levels, Node(i)) {
+            complete(kept, rule, Node(i), store, &mut stack)?;
+        }
+    }
+    Ok(())
+}

@@ -1,11 +1,12 @@
 //! What is kept by number: values, levels, and marks of the numbers that wait.
 
-ghost use Rattle.std.specs.Prelude.{◌≡◌, ℕ, ◌+◌, ◌<◌, ◌≤◌, ◌↔◌, length, slice_index_or, slice_set, MatchOption, IsSome, IsTrue, true, false, Some, None};
+ghost use Rattle.std.specs.Prelude.{◌≡◌, ℕ, ◌+◌, ◌<◌, ◌≤◌, ◌↔◌, length, slice_index_or, slice_set, MatchOption, IsSome, IsTrue, OnOk, OnErr, true, false, Some, None};
 ghost use Rattle.lnet_model.specs.Dags.{NUMBERS};
 ghost use Rattle.lnet_views.specs.Repair.{pair_eq, IsNext};
 ghost use Rattle.lnet_views.specs.Keeping.{answer, mark, height, tallest};
 
 use lnet_gates::{Gate, Node};
+use std::alloc::AllocError;
 
 /// Lists of one length: by number a value, a level where the number is live, and whether it waits for its repair.
 #[derive(Drop)]
@@ -84,5 +85,39 @@ fn is_lower(levels: &Vec<Option<u32>>, n: Node, best: Option<Node>) -> bool
     match best {
         Some(best) => height_of(levels, n) < height_of(levels, best),
         None => true,
+    }
+}
+
+/// Lengthens both lists to at least so many numbers, which have no level and don't wait; both or neither.
+pub fn lengthen(levels: &mut Vec<Option<u32>>, waits: &mut Vec<bool>, numbers: u32) -> Result<(), AllocError>
+    requires len { length waits.old.items ≡ length levels.old.items }
+    requires few { length levels.old.items ≤ 4294967295 }
+    ensures len { length waits.new.items ≡ length levels.new.items }
+    ensures few { length levels.new.items ≤ 4294967295 }
+    ensures grows { length levels.old.items ≤ length levels.new.items }
+    ensures room { OnOk result (numbers ≤ length levels.new.items) }
+    ensures refused { OnErr result (length levels.new.items ≡ length levels.old.items) }
+    ensures levels { (n : ℕ) → slice_index_or levels.new.items n None ≡ slice_index_or levels.old.items n None }
+    ensures waits { (n : ℕ) → mark waits.new.items n ≡ mark waits.old.items n }
+{
+    let old = levels.len();
+    let room = old.max(numbers as usize);
+    levels.resize(room, None)?;
+    match waits.resize(room, false) {
+        Ok(()) => Ok(()),
+        Err(refused) => {
+            levels.truncate(old);
+            Err(refused)
+        }
+    }
+}
+
+/// Drops the levels.
+pub fn clear_levels(levels: &mut Vec<Option<u32>>)
+    ensures len { length levels.new.items ≡ length levels.old.items }
+    ensures empty { (n : ℕ) → slice_index_or levels.new.items n None ≡ None }
+{
+    for i in 0..levels.len() {
+        levels[i] = None;
     }
 }

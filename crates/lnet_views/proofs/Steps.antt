@@ -1,6 +1,8 @@
 -- What is kept as lists is in step where it is kept for a network, and the other way round.
-use Rattle.std.proofs.Common.{◌≡◌, ◌≢◌, ℕ, zero, suc, ◌+◌, ◌<◌, ◌≤◌, Bool, true, false, eqb, List, [], ◌∷◌, length, map, IsSome, Option, None, Some, refl, sym, ap, subst, ◌∙◌, inl, inr, arith, get_or}
-use Rattle.std.specs.Prelude.{◌&&◌, slice_get}
+use Rattle.std.proofs.Common.{◌≡◌, ◌≢◌, ℕ, zero, suc, ◌+◌, ◌<◌, ◌≤◌, Bool, true, false, eqb, List, [], ◌∷◌, length, map, IsSome, Option, None, Some, refl, sym, ap, subst, ◌∙◌, inl, inr, arith, get_or, take}
+use Rattle.std.specs.Prelude.{◌&&◌, slice_get, min}
+use Rattle.std.proofs.lemmas.Bool.{cases_lt}
+use Rattle.std.proofs.lemmas.List.{get_or-take, get_or_past, length-take}
 use Rattle.lnet_gates.specs.declared.signal.Signal.{Signal}
 use Rattle.lnet_gates.specs.Gates.{GateValue}
 use Rattle.lnet_model.specs.Networks.{Entry, NetworkValue, entry_at, fanins_of, IsLive}
@@ -86,3 +88,40 @@ module _ {V : Type 0} (eq : V → V → Bool) (first : ℕ → V) (gives : ℕ �
       known = λ n live. let k = live-answer n live in subst IsSome (sym k.2) refl;
       dead = dead-level;
     }
+
+-- ---- growth
+
+get-take : {A : Type 0} (xs : List A) (k n : ℕ) → n < k → slice_get (take k xs) n ≡ slice_get xs n
+get-take xs zero n h = absurd (omega arith)
+get-take [] (suc k) n h = refl
+get-take (x ∷ xs) (suc k) zero h = refl
+get-take (x ∷ xs) (suc k) (suc n) h = get-take xs k n (omega arith)
+
+no-level : {V : Type 0} (o : Option V) → paired o None ≡ None
+no-level None = refl
+no-level (Some v) = refl
+
+past-end : {A : Type 0} (xs : List (Option A)) (n : ℕ) (l : A) → get_or xs n None ≡ Some l → n < length xs
+past-end [] n l e = let z : None ≡ Some l = e in cc
+past-end (x ∷ xs) zero l e = omega arith
+past-end (x ∷ xs) (suc n) l e = let h = past-end xs n l e in omega arith
+
+-- more values, and the same levels
+pub kept-grown : {V : Type 0} (values values2 : List V) (levels levels2 : List (Option ℕ)) → length values ≡ length levels → ((n : ℕ) → n < length values → slice_get values2 n ≡ slice_get values n) → ((n : ℕ) → get_or levels2 n None ≡ get_or levels n None) → (n : ℕ) → kept_at values2 levels2 n ≡ kept_at values levels n
+unfolding kept_at
+kept-grown values values2 levels levels2 len same ls n = ap (paired (slice_get values2 n)) (ls n) ∙ elim (get_or levels n None) as (λ o. (get_or levels n None ≡ o) → paired (slice_get values2 n) o ≡ paired (slice_get values n) o) [
+  | None ↦ λ e. no-level (slice_get values2 n) ∙ sym (no-level (slice_get values n))
+  | Some l ↦ λ e. (let h = past-end levels n l e in ap (λ z. paired z (Some l)) (same n (omega arith)))
+] refl
+
+pub prefix-gets : {V : Type 0} (values values2 : List V) → take (length values) values2 ≡ values → (n : ℕ) → n < length values → slice_get values2 n ≡ slice_get values n
+prefix-gets values values2 prefix n h = sym (get-take values2 (length values) n h) ∙ ap (λ z. slice_get z n) prefix
+
+pub cut-gets : {V : Type 0} (values values2 cut : List V) (k : ℕ) → k ≡ length values → take (length values) values2 ≡ values → cut ≡ take k values2 → (n : ℕ) → n < length values → slice_get cut n ≡ slice_get values n
+cut-gets values values2 cut k len prefix is n h = ap (λ z. slice_get z n) (is ∙ ap (λ z. take z values2) len ∙ prefix)
+
+pub cut-levels : (levels levels2 cut : List (Option ℕ)) (k : ℕ) → k ≡ length levels → ((n : ℕ) → get_or levels2 n None ≡ get_or levels n None) → cut ≡ take k levels2 → (n : ℕ) → get_or cut n None ≡ get_or levels n None
+cut-levels levels levels2 cut k len same is n = ap (λ z. get_or z n None) is ∙ elim (cases_lt n k) as (λ _. get_or (take k levels2) n None ≡ get_or levels n None) [
+  | inl h ↦ get_or-take k levels2 n None h ∙ same n
+  | inr h ↦ get_or_past (take k levels2) n None (let e = length-take k levels2 in omega arith) ∙ sym (get_or_past levels n None (omega arith))
+]

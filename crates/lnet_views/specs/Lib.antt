@@ -2,3 +2,4 @@ pub mod Repair
 pub mod Rules
 pub mod Keeping
 pub mod Building
+pub mod Follows

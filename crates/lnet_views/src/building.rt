@@ -3,16 +3,15 @@
 //! The gates whose fanins are being computed stand on a stack, each a fanin of the one below it. So nothing is called along
 //! the depth of the network, and each gate comes onto the stack once. Source: depth-first search with a stack of its own.
 
-ghost use Rattle.std.specs.Prelude.{◌≡◌, ◌≢◌, ℕ, ◌+◌, ◌<◌, ◌≤◌, [], length, slice_index_or, is_some, IsSome, OnOk, MatchOption, None};
+ghost use Rattle.std.specs.Prelude.{◌≡◌, ◌≢◌, ℕ, ◌+◌, ◌<◌, ◌≤◌, [], length, slice_index_or, is_some, IsSome, OnOk, MatchOption, None, take, false};
 ghost use Rattle.lnet_model.specs.Networks.{IsLive, entry_at, live_count};
 ghost use Rattle.lnet_model.specs.Along.{In, fanin_nodes, nodes_read};
 ghost use Rattle.lnet_model.specs.Dags.{IsDag, IsStored, NUMBERS, numbers_of};
-ghost use Rattle.lnet_views.specs.Repair.{pair_eq};
-ghost use Rattle.lnet_views.specs.Rules.{rule_step};
-ghost use Rattle.lnet_views.specs.Keeping.{answer, mark, height, IsSound, IsKept};
+ghost use Rattle.lnet_views.specs.Rules.{IsInStep};
+ghost use Rattle.lnet_views.specs.Keeping.{mark, height, kept_at};
 ghost use Rattle.lnet_views.specs.Building.{IsBuilding, undone};
 
-use crate::kept::{Kept, level_above, place};
+use crate::kept::{Kept, lengthen, level_above, place};
 use crate::rule::Rule;
 use lnet_gates::{Gate, Node};
 use lnet_store::Store;
@@ -114,5 +113,69 @@ fn complete_all<R: Rule>(kept: &mut Kept<R::Value>, rule: &R, store: &Store) -> 
             complete(kept, rule, Node(i), store, &mut stack)?;
         }
     }
+    Ok(())
+}
+
+/// Lengthens the values to this many by the rule's first values.
+fn fill<R: Rule>(values: &mut Vec<R::Value>, rule: &R, room: usize) -> Result<(), AllocError>
+    requires few { room ≤ 4294967295 }
+    requires more { length values.old.items ≤ room }
+    ensures prefix { take (length values.old.items) values.new.items ≡ values.old.items }
+    ensures len { OnOk result (length values.new.items ≡ room) }
+{
+    while values.len() < room {
+        let value = rule.first(Node(values.len() as u32));
+        values.push(value)?;
+    }
+    Ok(())
+}
+
+/// Makes room for at least so many numbers, which have no answer; refused, all stays.
+pub fn grow<R: Rule>(kept: &mut Kept<R::Value>, rule: &R, numbers: u32) -> Result<(), AllocError>
+    requires values { length kept.old.values.items ≡ length kept.old.levels.items }
+    requires waits { length kept.old.waits.items ≡ length kept.old.levels.items }
+    requires few { length kept.old.levels.items ≤ 4294967295 }
+    ensures values { length kept.new.values.items ≡ length kept.new.levels.items }
+    ensures waits { length kept.new.waits.items ≡ length kept.new.levels.items }
+    ensures few { length kept.new.levels.items ≤ 4294967295 }
+    ensures grows { length kept.old.levels.items ≤ length kept.new.levels.items }
+    ensures room { OnOk result (numbers ≤ length kept.new.levels.items) }
+    ensures same { (n : ℕ) → kept_at kept.new.values.items kept.new.levels.items n ≡ kept_at kept.old.values.items kept.old.levels.items n }
+    ensures levels { (n : ℕ) → slice_index_or kept.new.levels.items n None ≡ slice_index_or kept.old.levels.items n None }
+    ensures marks { (n : ℕ) → mark kept.new.waits.items n ≡ mark kept.old.waits.items n }
+{
+    let old = kept.levels.len();
+    lengthen(&mut kept.levels, &mut kept.waits, numbers)?;
+    match fill(&mut kept.values, rule, kept.levels.len()) {
+        Ok(()) => Ok(()),
+        Err(refused) => {
+            kept.values.truncate(old);
+            kept.levels.truncate(old);
+            kept.waits.truncate(old);
+            Err(refused)
+        }
+    }
+}
+
+/// Computes all answers from scratch, where none are kept.
+pub fn build<R: Rule>(kept: &mut Kept<R::Value>, rule: &R, store: &Store) -> Result<(), AllocError>
+    requires waits { length kept.old.waits.items ≡ length kept.old.levels.items }
+    requires few { length kept.old.levels.items ≤ 4294967295 }
+    requires idle { (n : ℕ) → mark kept.old.waits.items n ≡ false }
+    requires empty { (n : ℕ) → slice_index_or kept.old.levels.items n None ≡ None }
+    ensures waits { length kept.new.waits.items ≡ length kept.new.levels.items }
+    ensures few { length kept.new.levels.items ≤ 4294967295 }
+    ensures idle { (n : ℕ) → mark kept.new.waits.items n ≡ false }
+    ensures values { OnOk result (length kept.new.values.items ≡ length kept.new.levels.items) }
+    ensures small { OnOk result ((n : ℕ) → height kept.new.levels.items n ≤ NUMBERS) }
+    ensures room { OnOk result (numbers_of store.now.network ≤ length kept.new.levels.items) }
+    ensures in_step { OnOk result (IsInStep R.Value.eq (R.first_of rule.now) (R.gives rule.now) (kept_at kept.new.values.items kept.new.levels.items) store.now.network) }
+{
+    let (look, _visits) = store.look();
+    let _live_count = look.live_count();
+    lengthen(&mut kept.levels, &mut kept.waits, store.numbers())?;
+    kept.values.clear();
+    fill(&mut kept.values, rule, kept.levels.len())?;
+    complete_all(kept, rule, store)?;
     Ok(())
 }

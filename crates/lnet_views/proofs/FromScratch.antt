@@ -14,10 +14,11 @@ use Rattle.lnet_model.specs.Dags.{NUMBERS}
 use Rattle.lnet_model.proofs.Levels.{level-falls, level-small}
 use Rattle.lnet_model.proofs.Over.{over-once}
 use Rattle.lnet_views.specs.Repair.{IsLawful, pair_step, pair_eq}
-use Rattle.lnet_views.specs.Rules.{rule_step, made}
-use Rattle.lnet_views.specs.Keeping.{at_level, answer, mark, height, tallest, IsSound, IsKept, scratch, level_or}
+use Rattle.lnet_views.specs.Rules.{rule_step, made, IsInStep}
+use Rattle.lnet_views.specs.Keeping.{at_level, answer, mark, height, tallest, IsSound, IsKept, scratch, level_or, kept_at}
 use Rattle.lnet_views.specs.Building.{undone, IsBuilding, bottom, Falls, AreTodo}
-use Rattle.lnet_views.proofs.Pair.{eqb-is, and-right, pair-lawful, pair-over}
+use Rattle.lnet_views.proofs.Pair.{both, eqb-is, and-right, pair-lawful, pair-over}
+use Rattle.lnet_views.proofs.Steps.{dead-scratch, to-step}
 use Rattle.lnet_views.proofs.Repair.{once-like}
 use Rattle.lnet_views.proofs.Renewal.{answer-level, renewed-here, renewed-apart, fanin-live}
 
@@ -221,3 +222,17 @@ popped-smaller N n m a b e =
     let k : (a + 1) * (live_count N + 1) ≡ a * (live_count N + 1) + (live_count N + 1) = suc-times a (live_count N + 1) in
     let z = ap (λ w. w * (live_count N + 1)) e in
     omega arith
+
+-- and so it is in step
+pub building-in-step : {V : Type 0} (eq : V → V → Bool) (first : ℕ → V) (gives : ℕ → GateValue → List (Signal × V) → V) → IsLawful eq (rule_step first gives) → (N : NetworkValue) → Acyclic N → (values : List V) (levels : List (Option ℕ)) (waits : List Bool) → IsBuilding eq first gives N values levels waits → ((m : ℕ) → IsLive N m → IsSome (get_or levels m None)) → IsInStep eq first gives (kept_at values levels) N
+building-in-step eq first gives law N acyclic values levels waits B all = to-step eq first gives N acyclic values levels waits kept S
+  where
+    S : IsSound N values levels waits
+    S = building-end eq first gives N values levels waits B all
+
+    kept : IsKept eq first gives N values levels
+    kept n = elim (entry_at N n) as (λ o. (entry_at N n ≡ o) → pair_eq eq (answer (first 0) values levels n) (scratch first gives N n) ≡ true) [
+      | None ↦ λ d. (let is : answer (first 0) values levels n ≡ (first 0, 0) = ap (at_level (first 0) (get_or values n (first 0))) (S.dead n d) in
+        (λ i. pair_eq eq (is i) (dead-scratch first gives N acyclic n d i)) ∙ both _ _ (law.same (first 0)) refl)
+      | Some e ↦ λ d. (B.done n (all n (subst IsSome (sym d) refl))).1
+    ] refl

@@ -15,7 +15,7 @@ use Rattle.lnet_views.specs.Rules.{rule_step, made, IsInStep}
 use Rattle.lnet_views.specs.Keeping.{at_level, answer, IsSound, IsKept, scratch, paired, kept_at}
 use Rattle.lnet_views.proofs.Pair.{both, eqb-same, eqb-is, and-left, and-right, pair-lawful, pair-over}
 
-dead-scratch : {V : Type 0} (first : ℕ → V) (gives : ℕ → GateValue → List (Signal × V) → V) (P : NetworkValue) → Acyclic P → (x : ℕ) → entry_at P x ≡ None → scratch first gives P x ≡ (first 0, 0)
+pub dead-scratch : {V : Type 0} (first : ℕ → V) (gives : ℕ → GateValue → List (Signal × V) → V) (P : NetworkValue) → Acyclic P → (x : ℕ) → entry_at P x ≡ None → scratch first gives P x ≡ (first 0, 0)
 dead-scratch {V} first gives P acyclic x dead = over-once P (pair_step (rule_step first gives)) (first 0, 0) acyclic x ∙ ap (at_entry (first 0, 0) (λ e. pair_step (rule_step first gives) x e (map {B = Signal × (V × ℕ)} (λ s. (s, over P (pair_step (rule_step first gives)) (first 0, 0) s.node.0)) (fanins_of e)))) dead
 
 -- what stands inside a list

@@ -2,8 +2,10 @@
 #![tactic(auto)]
 
 mod building;
+mod following;
 mod kept;
 mod repairing;
 mod rule;
 
+pub use following::Follow;
 pub use rule::Rule;

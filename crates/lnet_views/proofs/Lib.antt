@@ -9,3 +9,4 @@ pub mod Events
 pub mod Steps
 pub mod Parents
 pub mod FromScratch
+pub mod FollowLemmas

@@ -1,18 +1,20 @@
 -- What is kept as lists is in step where it is kept for a network, and the other way round.
 use Rattle.std.proofs.Common.{◌≡◌, ◌≢◌, ℕ, zero, suc, ◌+◌, ◌<◌, ◌≤◌, Bool, true, false, eqb, List, [], ◌∷◌, length, map, IsSome, Option, None, Some, refl, sym, ap, subst, ◌∙◌, inl, inr, arith, get_or, take}
-use Rattle.std.specs.Prelude.{◌&&◌, slice_get, min}
+use Rattle.std.specs.Prelude.{◌&&◌, slice_get, min, option_map}
 use Rattle.std.proofs.lemmas.Bool.{cases_lt}
 use Rattle.std.proofs.lemmas.List.{get_or-take, get_or_past, length-take}
 use Rattle.lnet_gates.specs.declared.signal.Signal.{Signal}
 use Rattle.lnet_gates.specs.Gates.{GateValue}
-use Rattle.lnet_model.specs.Networks.{Entry, NetworkValue, entry_at, fanins_of, IsLive}
+use Rattle.lnet_model.specs.Networks.{Entry, NetworkValue, entry_at, fanins_of, IsLive, live_count}
 use Rattle.lnet_model.specs.Along.{at_entry, over, Acyclic}
 use Rattle.lnet_model.specs.Levels.{level}
-use Rattle.lnet_model.specs.Dags.{AreBelow}
+use Rattle.lnet_model.specs.Dags.{AreBelow, NUMBERS}
 use Rattle.lnet_model.proofs.Over.{over-once}
+use Rattle.lnet_model.proofs.Levels.{level-small}
+use Rattle.lnet_views.proofs.Renewal.{answer-level}
 use Rattle.lnet_views.specs.Repair.{IsLawful, pair_step, pair_eq}
 use Rattle.lnet_views.specs.Rules.{rule_step, made, IsInStep}
-use Rattle.lnet_views.specs.Keeping.{at_level, answer, IsSound, IsKept, scratch, paired, kept_at}
+use Rattle.lnet_views.specs.Keeping.{at_level, answer, IsSound, IsKept, scratch, height, paired, kept_at}
 use Rattle.lnet_views.proofs.Pair.{both, eqb-same, eqb-is, and-left, and-right, pair-lawful, pair-over}
 
 pub dead-scratch : {V : Type 0} (first : ℕ → V) (gives : ℕ → GateValue → List (Signal × V) → V) (P : NetworkValue) → Acyclic P → (x : ℕ) → entry_at P x ≡ None → scratch first gives P x ≡ (first 0, 0)
@@ -125,3 +127,46 @@ cut-levels levels levels2 cut k len same is n = ap (λ z. get_or z n None) is �
   | inl h ↦ get_or-take k levels2 n None h ∙ same n
   | inr h ↦ get_or_past (take k levels2) n None (let e = length-take k levels2 in omega arith) ∙ sym (get_or_past levels n None (omega arith))
 ]
+
+-- ---- what is read
+
+inside-some : {A : Type 0} (xs : List A) (n : ℕ) → n < length xs → (a : A) × (slice_get xs n ≡ Some a)
+inside-some [] n h = absurd (omega arith)
+inside-some (x ∷ xs) zero h = (x, refl)
+inside-some (x ∷ xs) (suc n) h = inside-some xs n (omega arith)
+
+module _ {V : Type 0} (values : List V) (levels : List (Option ℕ)) (attached : Bool) (full : attached ≡ true → length values ≡ length levels) (empty : attached ≡ false → (n : ℕ) → get_or levels n None ≡ None) where
+  -- where there is a level there is a value
+  valued : (n l : ℕ) → get_or levels n None ≡ Some l → (v : V) × (slice_get values n ≡ Some v)
+  valued n l e = elim attached as (λ b. (b ≡ true → length values ≡ length levels) → (b ≡ false → (n : ℕ) → get_or levels n None ≡ None) → (v : V) × (slice_get values n ≡ Some v)) [
+    | true ↦ λ f m. (let len = f refl in let h = past-end levels n l e in inside-some values n (omega arith))
+    | false ↦ λ f m. (let z : None ≡ Some l = sym (m refl n) ∙ e in cc)
+  ] full empty
+
+  pub level-kept : (n : ℕ) → get_or levels n None ≡ option_map (λ (a : V × ℕ). a.1) (kept_at values levels n)
+  unfolding kept_at
+  level-kept n = elim (get_or levels n None) as (λ o. (get_or levels n None ≡ o) → o ≡ option_map (λ (a : V × ℕ). a.1) (paired (slice_get values n) o)) [
+    | None ↦ λ e. ap (option_map (λ (a : V × ℕ). a.1)) (sym (no-level (slice_get values n)))
+    | Some l ↦ λ e. (let v = valued n l e in ap (λ o. option_map (λ (a : V × ℕ). a.1) (paired o (Some l))) (sym v.1))
+  ] refl
+
+  pub value-kept : (n l : ℕ) → get_or levels n None ≡ Some l → slice_get values n ≡ option_map (λ (a : V × ℕ). a.0) (kept_at values levels n)
+  unfolding kept_at
+  value-kept n l e = let v = valued n l e in v.1 ∙ (λ i. option_map (λ (a : V × ℕ). a.0) (paired (sym v.1 i) (sym e i)))
+
+pub none-kept : {V : Type 0} (values : List V) (levels : List (Option ℕ)) (n : ℕ) → get_or levels n None ≡ None → kept_at values levels n ≡ None
+unfolding kept_at
+none-kept values levels n e = ap (paired (slice_get values n)) e ∙ no-level (slice_get values n)
+
+-- where no value is kept, no level is
+pub same-kept : {V : Type 0} (values : List V) (levels levels2 : List (Option ℕ)) → ((n : ℕ) → get_or levels2 n None ≡ get_or levels n None) → (n : ℕ) → kept_at values levels2 n ≡ kept_at values levels n
+unfolding kept_at
+same-kept values levels levels2 same n = ap (paired (slice_get values n)) (same n)
+
+-- ---- heights
+
+pub kept-small : {V : Type 0} (eq : V → V → Bool) (first : ℕ → V) (gives : ℕ → GateValue → List (Signal × V) → V) (N : NetworkValue) → Acyclic N → (values : List V) (levels : List (Option ℕ)) → IsKept eq first gives N values levels → live_count N ≤ NUMBERS → (n : ℕ) → height levels n ≤ NUMBERS
+kept-small eq first gives N acyclic values levels kept few n =
+    let is = sym (answer-level (first 0) values levels n) ∙ eqb-is _ _ (and-right (eq (answer (first 0) values levels n).0 (scratch first gives N n).0) _ (kept n)) ∙ ap (λ (p : _ × ℕ). p.1) (pair-over N (rule_step first gives) (first 0) acyclic n) in
+    let h = level-small N n in
+    omega arith

@@ -6,7 +6,7 @@ ghost use Rattle.lnet_model.specs.Dags.{IsDag, AreBelow, NUMBERS, numbers_of};
 ghost use Rattle.lnet_views.specs.Keeping.{mark, height};
 
 use crate::building::{build, grow};
-use crate::kept::{Kept, clear_levels, lengthen};
+use crate::kept::{Kept, clear_levels, lengthen, level_of, value_of};
 use crate::repairing::follow;
 use crate::rule::Rule;
 use lnet_gates::Node;
@@ -125,9 +125,9 @@ impl<R: Rule> Follow<R> {
         ensures value { option_map (λ v. v.now) result ≡ option_map (λ a. a.0) (answers_in self.now.kept n.0) }
         ensures detached { self.now.rule ≡ None → result ≡ None }
     {
-        match self.kept.levels.get(n.0 as usize) {
-            Some(Some(_)) => self.kept.values.get(n.0 as usize),
-            _ => None,
+        match level_of(&self.kept.levels, n) {
+            Some(_) => value_of(&self.kept.values, n),
+            None => None,
         }
     }
 
@@ -136,9 +136,6 @@ impl<R: Rule> Follow<R> {
         ensures level { result ≡ option_map (λ a. a.1) (answers_in self.now.kept n.0) }
         ensures detached { self.now.rule ≡ None → result ≡ None }
     {
-        match self.kept.levels.get(n.0 as usize) {
-            Some(Some(level)) => Some(*level),
-            _ => None,
-        }
+        level_of(&self.kept.levels, n)
     }
 }

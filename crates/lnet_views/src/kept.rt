@@ -1,6 +1,6 @@
 //! What is kept by number: values, levels, and marks of the numbers that wait.
 
-ghost use Rattle.std.specs.Prelude.{◌≡◌, ℕ, ◌+◌, ◌<◌, ◌≤◌, ◌↔◌, length, slice_index_or, slice_set, MatchOption, IsSome, IsTrue, OnOk, OnErr, true, false, Some, None};
+ghost use Rattle.std.specs.Prelude.{◌≡◌, ℕ, ◌+◌, ◌<◌, ◌≤◌, ◌↔◌, length, slice_index_or, slice_get, option_map, slice_set, MatchOption, IsSome, IsTrue, OnOk, OnErr, true, false, Some, None};
 ghost use Rattle.lnet_model.specs.Dags.{NUMBERS};
 ghost use Rattle.lnet_views.specs.Repair.{pair_eq, IsNext};
 ghost use Rattle.lnet_views.specs.Keeping.{answer, mark, height, tallest};
@@ -14,6 +14,23 @@ pub struct Kept<V> {
     pub values: Vec<V>,
     pub levels: Vec<Option<u32>>,
     pub waits: Vec<bool>,
+}
+
+/// The level kept for a number.
+pub fn level_of(levels: &Vec<Option<u32>>, n: Node) -> Option<u32>
+    ensures { result ≡ slice_index_or levels.now.items n.0 None }
+{
+    match levels.get(n.0 as usize) {
+        Some(level) => *level,
+        None => None,
+    }
+}
+
+/// The value kept for a number.
+pub fn value_of<V>(values: &Vec<V>, n: Node) -> Option<&V>
+    ensures { option_map (λ v. v.now) result ≡ slice_get values.now.items n.0 }
+{
+    values.get(n.0 as usize)
 }
 
 /// The level kept for a number, 0 where there is none.

@@ -2,6 +2,7 @@
 #![tactic(auto)]
 
 mod building;
+mod depth;
 mod following;
 mod kept;
 mod repairing;

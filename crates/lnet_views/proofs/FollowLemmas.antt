@@ -6,7 +6,7 @@ use Rattle.lnet_model.specs.Networks.{NetworkValue}
 use Rattle.lnet_views.specs.Rules.{IsInStep}
 use Rattle.lnet_views.specs.Follows.{IsFollowing}
 
-some-same : {A : Type 0} (a b : A) → Some a ≡ Some b → a ≡ b
+pub some-same : {A : Type 0} (a b : A) → Some a ≡ Some b → a ≡ b
 some-same a b e = cc
 
 -- the rule that is read is the one by which it follows

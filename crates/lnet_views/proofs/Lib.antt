@@ -10,3 +10,4 @@ pub mod Steps
 pub mod Parents
 pub mod FromScratch
 pub mod FollowLemmas
+pub mod DepthLemmas

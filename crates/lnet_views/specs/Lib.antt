@@ -3,3 +3,4 @@ pub mod Rules
 pub mod Keeping
 pub mod Building
 pub mod Follows
+pub mod DepthViews

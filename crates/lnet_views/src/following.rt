@@ -52,6 +52,13 @@ impl<R: Rule> Follow<R> {
         })
     }
 
+    /// Whether it is attached. Constant time.
+    pub fn is_attached(&self) -> bool
+        ensures { result ≡ is_some self.now.rule }
+    {
+        self.rule.is_some()
+    }
+
     /// Attaches the detached follower to the store's network, by the rule. Refused for want of memory, it stays detached.
     /// Each live node is computed once: linear in the store's numbers and fanins.
     pub fn attach(&mut self, store: &Store, rule: R) -> Result<(), AllocError>

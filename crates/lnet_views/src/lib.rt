@@ -8,5 +8,6 @@ mod kept;
 mod repairing;
 mod rule;
 
+pub use depth::DepthView;
 pub use following::Follow;
 pub use rule::Rule;

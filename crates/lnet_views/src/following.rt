@@ -6,7 +6,7 @@ ghost use Rattle.lnet_model.specs.Dags.{IsDag, AreBelow, NUMBERS, numbers_of};
 ghost use Rattle.lnet_views.specs.Keeping.{mark, height};
 
 use crate::building::{build, grow};
-use crate::kept::{Kept, clear_levels, lengthen, level_of, value_of};
+use crate::kept::{Kept, clear, lengthen, level_of, value_of};
 use crate::repairing::follow;
 use crate::rule::Rule;
 use lnet_gates::Node;
@@ -74,7 +74,7 @@ impl<R: Rule> Follow<R> {
                 Ok(())
             }
             Err(refused) => {
-                clear_levels(&mut self.kept.levels);
+                clear(&mut self.kept);
                 Err(refused)
             }
         }
@@ -85,8 +85,7 @@ impl<R: Rule> Follow<R> {
         ensures rule { self.new.rule ≡ None }
         ensures empty { (n : ℕ) → answers_in self.new.kept n ≡ None }
     {
-        clear_levels(&mut self.kept.levels);
-        self.kept.values.clear();
+        clear(&mut self.kept);
         self.rule = None;
     }
 

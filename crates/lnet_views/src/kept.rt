@@ -129,8 +129,18 @@ pub fn lengthen(levels: &mut Vec<Option<u32>>, waits: &mut Vec<bool>, numbers: u
     }
 }
 
+/// Drops the answers, and keeps the memory.
+pub fn clear<V: Drop>(kept: &mut Kept<V>)
+    ensures len { length kept.new.levels.items ≡ length kept.old.levels.items }
+    ensures levels { (n : ℕ) → slice_index_or kept.new.levels.items n None ≡ None }
+    ensures waits { kept.new.waits.items ≡ kept.old.waits.items }
+{
+    clear_levels(&mut kept.levels);
+    kept.values.clear();
+}
+
 /// Drops the levels.
-pub fn clear_levels(levels: &mut Vec<Option<u32>>)
+fn clear_levels(levels: &mut Vec<Option<u32>>)
     ensures len { length levels.new.items ≡ length levels.old.items }
     ensures empty { (n : ℕ) → slice_index_or levels.new.items n None ≡ None }
 {

@@ -17,7 +17,7 @@ use Rattle.lnet_model.specs.Changes.{with_entry, without, was}
 use Rattle.lnet_model.specs.Visits.{fanouts, fanouts_in, reads_of, visit_bound}
 use Rattle.lnet_views.specs.Repair.{put, SameBut, IsLawful, IsFromScratch, IsRepairing, IsNext, IsTaken, IsSettled, pair_step, pair_eq}
 use Rattle.lnet_views.specs.Rules.{rule_step, made, is_other, rule_bound}
-use Rattle.lnet_views.specs.Keeping.{at_level, answer, mark, waiting, level_or, height, tallest, IsMarking, IsSound, IsRunning, spread, all_fanouts, IsKept, scratch}
+use Rattle.lnet_views.specs.Keeping.{at_level, answer, mark, level_or, height, tallest, IsMarking, IsSound, IsRunning, spread, all_fanouts, IsKept, scratch}
 use Rattle.lnet_model.proofs.Over.{over-once}
 use Rattle.lnet_model.proofs.Changes.{with_entry-here, with_entry-apart}
 use Rattle.lnet_views.proofs.Pair.{both, eqb-same, eqb-is, pair-lawful, pair-over}

@@ -11,7 +11,7 @@ use Rattle.lnet_model.specs.Changes.{with_entry, without, was}
 use Rattle.lnet_model.specs.Visits.{fanouts, fanouts_in, reads_of}
 use Rattle.lnet_views.specs.Repair.{put, SameBut, IsLawful, IsFromScratch, IsRepairing, IsNext, IsTaken, IsSettled, pair_step, pair_eq}
 use Rattle.lnet_views.specs.Rules.{rule_step, made}
-use Rattle.lnet_views.specs.Keeping.{at_level, answer, mark, waiting, level_or, height, tallest, IsMarking, IsSound, IsRunning, spread, all_fanouts, IsKept, scratch}
+use Rattle.lnet_views.specs.Keeping.{at_level, answer, mark, level_or, height, tallest, IsMarking, IsSound, IsRunning, spread, all_fanouts, IsKept, scratch}
 use Rattle.lnet_model.proofs.Along.{Step, once-same}
 use Rattle.lnet_model.proofs.Over.{once-entry}
 use Rattle.lnet_model.proofs.Changes.{with_entry-here, with_entry-apart, without-here, without-apart}
@@ -47,10 +47,10 @@ module _ {A : Type 0} (eq : A → A → Bool) (step : Step A) (none : A) (law : 
 pub apart-live : (N : NetworkValue) (n m : ℕ) → m ≢ n → IsLive N m → IsLive (without N n) m
 apart-live N n m ne live = subst IsSome (sym (without-apart N n m ne)) live
 
-pub enter-known : {V : Type 0} (N : NetworkValue) (n : ℕ) (values : List V) (levels : List (Option ℕ)) (waits : List Bool) → Acyclic N → IsClosed N → IsSound (without N n) values levels waits → (m : ℕ) → IsParent N m n → IsSome (get_or levels m None)
+pub enter-known : {V : Type 0} (N : NetworkValue) (n : ℕ) (values : List V) (levels : List (Option ℕ)) (waits : List (Option ℕ)) → Acyclic N → IsClosed N → IsSound (without N n) values levels waits → (m : ℕ) → IsParent N m n → IsSome (get_or levels m None)
 enter-known N n values levels waits cn closed S m i = S.known m (apart-live N n m (λ e. let f = level-falls N cn n m i in let g = ap (level N) e in omega arith) (closed n m i))
 
-module _ {V : Type 0} (N : NetworkValue) (n : ℕ) (v : V) (l : ℕ) (values values2 : List V) (levels levels2 : List (Option ℕ)) (waits waits2 : List Bool) (vs : values2 ≡ set values n v) (ls : levels2 ≡ set levels n (Some l)) (ws : waits2 ≡ set waits n false) (S : IsSound (without N n) values levels waits) (inside : n < length values) where
+module _ {V : Type 0} (N : NetworkValue) (n : ℕ) (v : V) (l : ℕ) (values values2 : List V) (levels levels2 : List (Option ℕ)) (waits waits2 : List (Option ℕ)) (vs : values2 ≡ set values n v) (ls : levels2 ≡ set levels n (Some l)) (ws : waits2 ≡ waits) (S : IsSound (without N n) values levels waits) (inside : n < length values) where
   inside2 : n < length levels
   inside2 = let e = S.levels_len in omega arith
 
@@ -59,7 +59,7 @@ module _ {V : Type 0} (N : NetworkValue) (n : ℕ) (v : V) (l : ℕ) (values val
       let a = ap length vs ∙ length-set values n v in
       record {
         levels_len = ap length ls ∙ length-set levels n (Some l) ∙ S.levels_len ∙ sym a;
-        waits_len = ap length ws ∙ length-set waits n false ∙ S.waits_len ∙ sym a;
+        waits_len = (let c = ap length ws in let d = S.waits_len in omega arith);
         room = λ m live. subst (λ z. m < z) (sym a) (room m live);
         known = λ m live. subst (λ z. IsSome (get_or z m None)) (sym ls) (elim (eqb_tells m n) as (λ _. IsSome (get_or (set levels n (Some l)) m None)) [
           | inl p ↦ subst IsSome (sym (ap (λ z. get_or (set levels n (Some l)) z None) p.1 ∙ get_or-set_same levels n (Some l) None inside2)) refl
@@ -68,12 +68,6 @@ module _ {V : Type 0} (N : NetworkValue) (n : ℕ) (v : V) (l : ℕ) (values val
         dead = λ m d. let ne : m ≢ n = λ e. (let z : false ≡ true = subst IsSome (ap (entry_at N) (sym e) ∙ d) live in cc) in ap (λ z. get_or z m None) ls ∙ get_or-set_other levels n m (Some l) None ne ∙ S.dead m (without-apart N n m ne ∙ d);
       }
 
-  pub enter-idle : ((m : ℕ) → mark waits m ≡ false) → (m : ℕ) → mark waits2 m ≡ false
-  enter-idle idle m = ap (λ z. mark z m) ws ∙ elim (eqb_tells m n) as (λ _. mark (set waits n false) m ≡ false) [
-    | inl p ↦ ap (mark (set waits n false)) p.1 ∙ get_or-set_same waits n false false (let e = S.waits_len in omega arith)
-    | inr p ↦ get_or-set_other waits n m false false p.1 ∙ idle m
-  ]
-
   pub enter-kept : (eq : V → V → Bool) (first : ℕ → V) (gives : ℕ → GateValue → List (Signal × V) → V) → IsLawful eq (rule_step first gives) → Acyclic (without N n) → Acyclic N → IsClosed (without N n) → IsKept eq first gives (without N n) values levels → pair_eq eq (v, l) (once (entry_at N) (pair_step (rule_step first gives)) (first 0, 0) (answer (first 0) values levels) n) ≡ true → IsKept eq first gives N values2 levels2
   enter-kept eq first gives law cm cn closed before is =
       added-kept (pair_eq eq) (pair_step (rule_step first gives)) (first 0, 0) (pair-lawful eq (rule_step first gives) law) (without N n) N n cm cn (λ q ne. without-apart N n q ne) (answer (first 0) values levels) (answer (first 0) values2 levels2) before
@@ -81,11 +75,11 @@ module _ {V : Type 0} (N : NetworkValue) (n : ℕ) (v : V) (l : ℕ) (values val
       closed (without-here N n)
       (subst (λ z. pair_eq eq z (once (entry_at N) (pair_step (rule_step first gives)) (first 0, 0) (answer (first 0) values levels) n) ≡ true) (sym (renewed-here (first 0) values levels n v l values2 levels2 vs ls inside inside2)) is)
 
-pub leave-inside : {V : Type 0} (N : NetworkValue) (n : ℕ) (g : GateValue) (values : List V) (levels : List (Option ℕ)) (waits : List Bool) → IsSound (with_entry N n (IsGate g)) values levels waits → n < length levels
+pub leave-inside : {V : Type 0} (N : NetworkValue) (n : ℕ) (g : GateValue) (values : List V) (levels : List (Option ℕ)) (waits : List (Option ℕ)) → IsSound (with_entry N n (IsGate g)) values levels waits → n < length levels
 leave-inside N n g values levels waits S = let r = S.room n (subst IsSome (sym (with_entry-here N n (IsGate g))) refl) in let e = S.levels_len in omega arith
 
 -- a number given up
-module _ {V : Type 0} (N : NetworkValue) (n : ℕ) (g : GateValue) (values values2 : List V) (levels levels2 : List (Option ℕ)) (waits waits2 : List Bool) (vs : values2 ≡ values) (ls : levels2 ≡ set levels n None) (ws : waits2 ≡ waits) (S : IsSound (with_entry N n (IsGate g)) values levels waits) (dead : entry_at N n ≡ None) where
+module _ {V : Type 0} (N : NetworkValue) (n : ℕ) (g : GateValue) (values values2 : List V) (levels levels2 : List (Option ℕ)) (waits waits2 : List (Option ℕ)) (vs : values2 ≡ values) (ls : levels2 ≡ set levels n None) (ws : waits2 ≡ waits) (S : IsSound (with_entry N n (IsGate g)) values levels waits) (dead : entry_at N n ≡ None) where
   not-own : (m : ℕ) → IsLive N m → m ≢ n
   not-own m live e = let z : false ≡ true = subst IsSome (ap (entry_at N) e ∙ dead) live in cc
 
@@ -95,7 +89,7 @@ module _ {V : Type 0} (N : NetworkValue) (n : ℕ) (g : GateValue) (values value
   pub leave-sound : IsSound N values2 levels2 waits2
   leave-sound = record {
     levels_len = ap length ls ∙ length-set levels n None ∙ S.levels_len ∙ sym (ap length vs);
-    waits_len = ap length ws ∙ S.waits_len ∙ sym (ap length vs);
+    waits_len = (let c = ap length ws in let d = S.waits_len in let e = ap length vs in omega arith);
     room = λ m live. subst (λ z. m < z) (sym (ap length vs)) (S.room m (was-live m live));
     known = λ m live. subst (λ z. IsSome (get_or z m None)) (sym ls) (subst IsSome (sym (get_or-set_other levels n m None None (not-own m live))) (S.known m (was-live m live)));
     dead = λ m d. elim (eqb_tells m n) as (λ _. get_or levels2 m None ≡ None) [
@@ -112,7 +106,7 @@ module _ {V : Type 0} (N : NetworkValue) (n : ℕ) (g : GateValue) (values value
       ((λ i. at_level (first 0) (get_or (vs i) n (first 0)) (get_or (ls i) n None)) ∙ ap (at_level (first 0) (get_or values n (first 0))) (get_or-set_same levels n None None (leave-inside N n g values levels waits S)))
 
 -- a modified number was live and is
-pub modified-sound : {V : Type 0} (N : NetworkValue) (n : ℕ) (g : GateValue) (values : List V) (levels : List (Option ℕ)) (waits : List Bool) → IsSome (gate_in (entry_at N n)) → IsSound (with_entry N n (IsGate g)) values levels waits → IsSound N values levels waits
+pub modified-sound : {V : Type 0} (N : NetworkValue) (n : ℕ) (g : GateValue) (values : List V) (levels : List (Option ℕ)) (waits : List (Option ℕ)) → IsSome (gate_in (entry_at N n)) → IsSound (with_entry N n (IsGate g)) values levels waits → IsSound N values levels waits
 modified-sound N n g values levels waits gate S = record { levels_len = S.levels_len; waits_len = S.waits_len; room = λ m live. S.room m (was m live); known = λ m live. S.known m (was m live); dead = λ m d. S.dead m (with_entry-apart N n (IsGate g) m (λ e. let z : false ≡ true = subst (λ o. IsSome (gate_in o)) (ap (entry_at N) (sym e) ∙ d) gate in cc) ∙ d) }
   where
     was : (m : ℕ) → IsLive N m → IsLive (with_entry N n (IsGate g)) m

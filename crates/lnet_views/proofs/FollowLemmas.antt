@@ -1,5 +1,5 @@
 -- A follower that is attached.
-use Rattle.std.proofs.Common.{◌≡◌, ◌≤◌, ℕ, length, arith, Bool, List, Option, None, Some, sym, subst, ◌∙◌}
+use Rattle.std.proofs.Common.{◌≡◌, ◌<◌, ◌≤◌, ℕ, length, arith, Bool, List, Option, None, Some, sym, subst, ◌∙◌}
 use Rattle.lnet_gates.specs.declared.signal.Signal.{Signal}
 use Rattle.lnet_gates.specs.Gates.{GateValue}
 use Rattle.lnet_model.specs.Networks.{NetworkValue}
@@ -15,3 +15,6 @@ followed-by eq first_of gives rule kept N r is F = subst (λ q. IsInStep eq (fir
 
 pub few-after : {V : Type 0} (values values2 : List V) (levels levels2 : List (Option ℕ)) → length levels ≤ 4294967295 → length values ≡ length levels → length values2 ≡ length values → length levels2 ≡ length values2 → length levels2 ≤ 4294967295
 few-after values values2 levels levels2 few full len same = omega arith
+
+pub heads-after : {V : Type 0} (values values2 : List V) (levels levels2 heads heads2 : List (Option ℕ)) → length values ≡ length levels → length levels < length heads → length values2 ≡ length values → length levels2 ≡ length values2 → length heads2 ≡ length heads → length levels2 < length heads2
+heads-after values values2 levels levels2 heads heads2 full more len same h = omega arith

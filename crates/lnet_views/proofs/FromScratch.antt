@@ -73,18 +73,21 @@ bare-fanin (Some (IsGate g)) e m i = cc
 
 -- ---- one more answer
 
-module _ {V : Type 0} (eq : V → V → Bool) (first : ℕ → V) (gives : ℕ → GateValue → List (Signal × V) → V) (law : IsLawful eq (rule_step first gives)) (N : NetworkValue) (acyclic : Acyclic N) (values : List V) (levels : List (Option ℕ)) (waits : List Bool) (B : IsBuilding eq first gives N values levels waits) where
+module _ {V : Type 0} (eq : V → V → Bool) (first : ℕ → V) (gives : ℕ → GateValue → List (Signal × V) → V) (law : IsLawful eq (rule_step first gives)) (N : NetworkValue) (acyclic : Acyclic N) (values : List V) (levels : List (Option ℕ)) (waits : List (Option ℕ)) (B : IsBuilding eq first gives N values levels waits) where
   -- each level so far is the network's
-  pub building-small : live_count N ≤ NUMBERS → (m : ℕ) → height levels m ≤ NUMBERS
-  building-small few m = elim (get_or levels m None) as (λ o. (get_or levels m None ≡ o) → height levels m ≤ NUMBERS) [
+  pub building-low : (top : ℕ) → ((m : ℕ) → level N m ≤ top) → (m : ℕ) → height levels m ≤ top
+  building-low top low m = elim (get_or levels m None) as (λ o. (get_or levels m None ≡ o) → height levels m ≤ top) [
     | None ↦ λ e. (let z = ap level_or e in omega arith)
     | Some l ↦ λ e. (let right = B.done m (subst IsSome (sym e) refl) in
       let is = sym (answer-level (first 0) values levels m) ∙ eqb-is _ _ (and-right (eq (answer (first 0) values levels m).0 (scratch first gives N m).0) _ right.1) ∙ ap (λ (p : V × ℕ). p.1) (pair-over N (rule_step first gives) (first 0) acyclic m) in
-      let h = level-small N m in
+      let h = low m in
       omega arith)
   ] refl
 
-  module _ (n : ℕ) (live : IsLive N n) (todo : get_or levels n None ≡ None) (v : V) (l : ℕ) (values2 : List V) (levels2 : List (Option ℕ)) (waits2 : List Bool) (vs : values2 ≡ set values n v) (ls : levels2 ≡ set levels n (Some l)) (ws : waits2 ≡ set waits n false) where
+  pub building-small : live_count N ≤ NUMBERS → (m : ℕ) → height levels m ≤ NUMBERS
+  building-small few = building-low NUMBERS (λ m. let h = level-small N m in omega arith)
+
+  module _ (n : ℕ) (live : IsLive N n) (todo : get_or levels n None ≡ None) (v : V) (l : ℕ) (values2 : List V) (levels2 : List (Option ℕ)) (waits2 : List (Option ℕ)) (vs : values2 ≡ set values n v) (ls : levels2 ≡ set levels n (Some l)) (ws : waits2 ≡ waits) where
     inside : n < length levels
     inside = let r = B.room n live in let e = B.levels_len in omega arith
 
@@ -104,12 +107,9 @@ module _ {V : Type 0} (eq : V → V → Bool) (first : ℕ → V) (gives : ℕ �
     pub place-building : ((m : ℕ) → IsParent N m n → IsSome (get_or levels m None)) → pair_eq eq (v, l) (once (entry_at N) (pair_step (rule_step first gives)) (first 0, 0) (answer (first 0) values levels) n) ≡ true → IsBuilding eq first gives N values2 levels2 waits2
     place-building known is = record {
       levels_len = ap length ls ∙ length-set levels n (Some l) ∙ B.levels_len ∙ sym a;
-      waits_len = ap length ws ∙ length-set waits n false ∙ B.waits_len ∙ sym a;
+      waits_len = (let c = ap length ws in let d = B.waits_len in let e = a in omega arith);
       room = λ m h. subst (λ z. m < z) (sym a) (B.room m h);
-      idle = λ m. ap (λ z. mark z m) ws ∙ elim (eqb_tells m n) as (λ _. mark (set waits n false) m ≡ false) [
-        | inl p ↦ ap (mark (set waits n false)) p.1 ∙ get_or-set_same waits n false false (let e = B.waits_len in let r = B.room n live in omega arith)
-        | inr p ↦ get_or-set_other waits n m false false p.1 ∙ B.idle m
-      ];
+      idle = λ m. ap (λ z. mark z m) ws ∙ B.idle m;
       done = λ m h. elim (eqb_tells m n) as (λ _. IsLive N m × (pair_eq eq (answer (first 0) values2 levels2 m) (scratch first gives N m) ≡ true)) [
         | inl p ↦ (subst (IsLive N) (sym p.1) live, subst (λ z. pair_eq eq (answer (first 0) values2 levels2 z) (scratch first gives N z) ≡ true) (sym p.1) (subst (λ z. pair_eq eq z (scratch first gives N n) ≡ true) (sym (renewed-here (first 0) values levels n v l values2 levels2 vs ls (B.room n live) inside)) right))
         | inr p ↦ (let d = B.done m (subst IsSome (place-apart m p.1) h) in (d.0, subst (λ z. pair_eq eq z (scratch first gives N m) ≡ true) (sym (renewed-apart (first 0) values levels n v l values2 levels2 vs ls m p.1)) d.1))
@@ -126,7 +126,7 @@ module _ {V : Type 0} (eq : V → V → Bool) (first : ℕ → V) (gives : ℕ �
         right = P.joined _ _ _ is (subst (λ z. pair_eq eq (once (entry_at N) (pair_step (rule_step first gives)) (first 0, 0) (answer (first 0) values levels) n) z ≡ true) (sym (over-once N (pair_step (rule_step first gives)) (first 0, 0) acyclic n)) (once-like (pair_eq eq) (pair_step (rule_step first gives)) (first 0, 0) P (entry_at N) (answer (first 0) values levels) (scratch first gives N) n (λ m i. (B.done m (known m i)).1)))
 
 -- where each live number has an answer, all is made
-pub building-end : {V : Type 0} (eq : V → V → Bool) (first : ℕ → V) (gives : ℕ → GateValue → List (Signal × V) → V) (N : NetworkValue) (values : List V) (levels : List (Option ℕ)) (waits : List Bool) → IsBuilding eq first gives N values levels waits → ((m : ℕ) → IsLive N m → IsSome (get_or levels m None)) → IsSound N values levels waits
+pub building-end : {V : Type 0} (eq : V → V → Bool) (first : ℕ → V) (gives : ℕ → GateValue → List (Signal × V) → V) (N : NetworkValue) (values : List V) (levels : List (Option ℕ)) (waits : List (Option ℕ)) → IsBuilding eq first gives N values levels waits → ((m : ℕ) → IsLive N m → IsSome (get_or levels m None)) → IsSound N values levels waits
 building-end eq first gives N values levels waits B all = record {
   levels_len = B.levels_len;
   waits_len = B.waits_len;
@@ -224,7 +224,7 @@ popped-smaller N n m a b e =
     omega arith
 
 -- and so it is in step
-pub building-in-step : {V : Type 0} (eq : V → V → Bool) (first : ℕ → V) (gives : ℕ → GateValue → List (Signal × V) → V) → IsLawful eq (rule_step first gives) → (N : NetworkValue) → Acyclic N → (values : List V) (levels : List (Option ℕ)) (waits : List Bool) → IsBuilding eq first gives N values levels waits → ((m : ℕ) → IsLive N m → IsSome (get_or levels m None)) → IsInStep eq first gives (kept_at values levels) N
+pub building-in-step : {V : Type 0} (eq : V → V → Bool) (first : ℕ → V) (gives : ℕ → GateValue → List (Signal × V) → V) → IsLawful eq (rule_step first gives) → (N : NetworkValue) → Acyclic N → (values : List V) (levels : List (Option ℕ)) (waits : List (Option ℕ)) → IsBuilding eq first gives N values levels waits → ((m : ℕ) → IsLive N m → IsSome (get_or levels m None)) → IsInStep eq first gives (kept_at values levels) N
 building-in-step eq first gives law N acyclic values levels waits B all = to-step eq first gives N acyclic values levels waits kept S
   where
     S : IsSound N values levels waits

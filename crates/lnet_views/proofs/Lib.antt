@@ -11,3 +11,7 @@ pub mod Parents
 pub mod FromScratch
 pub mod FollowLemmas
 pub mod DepthLemmas
+pub mod Links
+pub mod Waits
+pub mod Counts
+pub mod Queueing

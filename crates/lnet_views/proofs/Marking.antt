@@ -1,5 +1,5 @@
 -- The marking of a node's parents.
-use Rattle.std.proofs.Common.{◌≡◌, ◌≢◌, ℕ, ◌+◌, ◌*◌, ◌<◌, ◌≤◌, Bool, true, false, cond, List, [], ◌∷◌, length, map, None, refl, sym, ap, subst, ◌∙◌, inl, inr, arith, get_or, set, get_or-set_same, get_or-set_other, length-set}
+use Rattle.std.proofs.Common.{◌≡◌, ◌≢◌, ℕ, ◌+◌, ◌*◌, ◌<◌, ◌≤◌, Bool, true, false, cond, List, [], ◌∷◌, length, map, Option, None, refl, sym, ap, subst, ◌∙◌, inl, inr, arith, get_or, set, get_or-set_same, get_or-set_other, length-set}
 use Rattle.std.specs.Prelude.{◌⊎◌, sum_by}
 use Rattle.std.proofs.lemmas.Bool.Decides.{eqb_tells}
 use Rattle.std.proofs.lemmas.List.Sums.{sum_by-set}
@@ -13,10 +13,10 @@ use Rattle.lnet_model.specs.Changes.{with_entry, without, was}
 use Rattle.lnet_model.specs.Visits.{fanouts, fanouts_in, reads_of}
 use Rattle.lnet_views.specs.Repair.{put, SameBut, IsLawful, IsFromScratch, IsRepairing, IsNext, IsTaken, IsSettled, pair_step, pair_eq}
 use Rattle.lnet_views.specs.Rules.{rule_step, made}
-use Rattle.lnet_views.specs.Keeping.{at_level, answer, mark, waiting, level_or, height, tallest, IsMarking, IsSound, IsRunning, spread, all_fanouts, IsKept, scratch}
+use Rattle.lnet_views.specs.Keeping.{at_level, answer, mark, level_or, height, tallest, IsMarking, IsSound, IsRunning, spread, all_fanouts, IsKept, scratch}
 use Rattle.lnet_model.proofs.Along.{live_parent}
 
-pub marking-start : (N : NetworkValue) (n : ℕ) (waits : List Bool) (rest : List (ℕ × ℕ)) → ((p : ℕ) → In p (map (λ r. r.0) rest) → IsParent N n p) → ((p : ℕ) → IsParent N n p → In p (map (λ r. r.0) rest)) → IsMarking N n waits waits rest
+pub marking-start : (N : NetworkValue) (n : ℕ) (waits : List (Option ℕ)) (rest : List (ℕ × ℕ)) → ((p : ℕ) → In p (map (λ r. r.0) rest) → IsParent N n p) → ((p : ℕ) → IsParent N n p → In p (map (λ r. r.0) rest)) → IsMarking N n waits waits rest
 marking-start N n waits rest each all = record {
   len = refl;
   kept = λ m t. t;
@@ -25,40 +25,36 @@ marking-start N n waits rest each all = record {
   only = λ m t f. let z : true ≡ false = sym t ∙ f in cc;
 }
 
-pub marking-inside : (N : NetworkValue) (n : ℕ) (before waits : List Bool) (p : ℕ × ℕ) (rest more : List (ℕ × ℕ)) → ((m : ℕ) → IsLive N m → m < length before) → more ≡ p ∷ rest → IsMarking N n before waits more → p.0 < length waits
+pub marking-parent : (N : NetworkValue) (n : ℕ) (before waits : List (Option ℕ)) (p : ℕ × ℕ) (rest more : List (ℕ × ℕ)) → more ≡ p ∷ rest → IsMarking N n before waits more → IsParent N n p.0
+marking-parent N n before waits p rest more is I = I.todo p.0 (subst (λ z. In p.0 (map (λ (r : ℕ × ℕ). r.0) z)) (sym is) (inl refl))
+
+pub marking-inside : (N : NetworkValue) (n : ℕ) (before waits : List (Option ℕ)) (p : ℕ × ℕ) (rest more : List (ℕ × ℕ)) → ((m : ℕ) → IsLive N m → m < length before) → more ≡ p ∷ rest → IsMarking N n before waits more → p.0 < length waits
 marking-inside N n before waits p rest more room is I =
-    let i : IsParent N n p.0 = I.todo p.0 (subst (λ z. In p.0 (map (λ (r : ℕ × ℕ). r.0) z)) (sym is) (inl refl)) in
-    let h = room p.0 (live_parent (entry_at N) p.0 n i) in
+    let h = room p.0 (live_parent (entry_at N) p.0 n (marking-parent N n before waits p rest more is I)) in
     let e = I.len in
     omega arith
 
-module _ (N : NetworkValue) (n : ℕ) (before waits : List Bool) (p : ℕ × ℕ) (rest more : List (ℕ × ℕ)) (inside : p.0 < length waits) (is : more ≡ p ∷ rest) (I : IsMarking N n before waits more) where
-  mark-here : (m : ℕ) → m ≡ p.0 → mark (set waits p.0 true) m ≡ true
-  mark-here m e = ap (mark (set waits p.0 true)) e ∙ get_or-set_same waits p.0 true false inside
+module _ (N : NetworkValue) (n : ℕ) (before waits waits2 : List (Option ℕ)) (p : ℕ × ℕ) (rest more : List (ℕ × ℕ)) (len : length waits2 ≡ length waits) (here : mark waits2 p.0 ≡ true) (others : (m : ℕ) → m ≢ p.0 → mark waits2 m ≡ mark waits m) (is : more ≡ p ∷ rest) (I : IsMarking N n before waits more) where
+  mark-here : (m : ℕ) → m ≡ p.0 → mark waits2 m ≡ true
+  mark-here m e = ap (mark waits2) e ∙ here
 
-  mark-apart : (m : ℕ) → m ≢ p.0 → mark (set waits p.0 true) m ≡ mark waits m
-  mark-apart m ne = get_or-set_other waits p.0 m true false ne
+  grows : (m : ℕ) → mark waits m ≡ true → mark waits2 m ≡ true
+  grows m t = elim (eqb_tells m p.0) as (λ _. mark waits2 m ≡ true) [ inl e ↦ mark-here m e.1 | inr e ↦ others m e.1 ∙ t ]
 
-  grows : (m : ℕ) → mark waits m ≡ true → mark (set waits p.0 true) m ≡ true
-  grows m t = elim (eqb_tells m p.0) as (λ _. mark (set waits p.0 true) m ≡ true) [ inl e ↦ mark-here m e.1 | inr e ↦ mark-apart m e.1 ∙ t ]
-
-  pub marking-step : IsMarking N n before (set waits p.0 true) rest
+  pub marking-step : IsMarking N n before waits2 rest
   marking-step = record {
-    len = length-set waits p.0 true ∙ I.len;
+    len = len ∙ I.len;
     kept = λ m t. grows m (I.kept m t);
     todo = λ m i. I.todo m (subst (λ z. In m (map (λ (r : ℕ × ℕ). r.0) z)) (sym is) (inr i));
-    done = λ m i. elim (I.done m i) as (λ _. (mark (set waits p.0 true) m ≡ true) ⊎ In m (map (λ r. r.0) rest)) [
+    done = λ m i. elim (I.done m i) as (λ _. (mark waits2 m ≡ true) ⊎ In m (map (λ r. r.0) rest)) [
       | inl t ↦ inl (grows m t)
-      | inr j ↦ elim (subst (λ z. In m (map (λ (r : ℕ × ℕ). r.0) z)) is j) as (λ _. (mark (set waits p.0 true) m ≡ true) ⊎ In m (map (λ r. r.0) rest)) [ inl e ↦ inl (mark-here m e) | inr k ↦ inr k ]
+      | inr j ↦ elim (subst (λ z. In m (map (λ (r : ℕ × ℕ). r.0) z)) is j) as (λ _. (mark waits2 m ≡ true) ⊎ In m (map (λ r. r.0) rest)) [ inl e ↦ inl (mark-here m e) | inr k ↦ inr k ]
     ];
     only = λ m t f. elim (eqb_tells m p.0) as (λ _. IsParent N n m) [
       | inl e ↦ I.todo m (subst (λ z. In m (map (λ (r : ℕ × ℕ). r.0) z)) (sym is) (inl e.1))
-      | inr e ↦ I.only m (sym (mark-apart m e.1) ∙ t) f
+      | inr e ↦ I.only m (sym (others m e.1) ∙ t) f
     ];
   }
 
-  pub waiting-step : waiting (set waits p.0 true) ≤ waiting waits + 1
-  waiting-step = let s = sum_by-set (λ (b : Bool). cond b 1 0) waits p.0 true false inside in omega arith
-
-pub marking-end : (N : NetworkValue) (n : ℕ) (before waits : List Bool) (rest : List (ℕ × ℕ)) → rest ≡ [] → IsMarking N n before waits rest → (p : ℕ) → IsParent N n p → mark waits p ≡ true
+pub marking-end : (N : NetworkValue) (n : ℕ) (before waits : List (Option ℕ)) (rest : List (ℕ × ℕ)) → rest ≡ [] → IsMarking N n before waits rest → (p : ℕ) → IsParent N n p → mark waits p ≡ true
 marking-end N n before waits rest is I p i = elim (I.done p i) as (λ _. mark waits p ≡ true) [ inl t ↦ t | inr j ↦ absurd (subst (λ z. In p (map (λ (r : ℕ × ℕ). r.0) z)) is j) ]

@@ -29,7 +29,7 @@ slots-parent n p x k (s ∷ ss) i = (elim (eqb_tells s.node.0 n) as (λ _. In x 
   | inr e ↦ λ i. let t = slots-parent n p x (suc k) ss (subst (λ b. In x (map (λ (r : ℕ × ℕ). r.0) (cond b ((p, k) ∷ slots_naming n p (suc k) ss) (slots_naming n p (suc k) ss)))) e.0 i) in (t.0, inr t.1)
 ]) i
 
-abbrev InPairs : ℕ × Entry → List (ℕ × Entry) → Type 0
+abbrev pub InPairs : ℕ × Entry → List (ℕ × Entry) → Type 0
 InPairs x [] = ⊥
 InPairs x (y ∷ ys) = (x ≡ y) ⊎ InPairs x ys
 
@@ -41,11 +41,11 @@ from-listed n p (e ∷ es) i = elim (in-append p (slots_naming n e.0 0 (fanins_o
   | inr j ↦ (let t = from-listed n p es j in (t.0, inr t.1, t.2, t.3))
 ]
 
-first : (a b : Bool) → T (a && b) → T a
+pub first : (a b : Bool) → T (a && b) → T a
 first true b p = tt
 first false b p = p
 
-second : (a b : Bool) → T (a && b) → T b
+pub second : (a b : Bool) → T (a && b) → T b
 second true b p = p
 second false b p = absurd p
 
@@ -56,13 +56,13 @@ lt-from x y h = elim (nat_cmp x y) as (λ r. MatchOrdering r (x < y) (x ≡ y) (
   | Greater ↦ λ m h. absurd h
 ] (ranks x y) h
 
-above : (x : ℕ) (es : List (ℕ × Entry)) → T (below_all nat_cmp x es) → (e : ℕ × Entry) → InPairs e es → x < e.0
+pub above : (x : ℕ) (es : List (ℕ × Entry)) → T (below_all nat_cmp x es) → (e : ℕ × Entry) → InPairs e es → x < e.0
 above x [] h e i = absurd i
 above x (f ∷ fs) h e (inl is) = subst (λ (z : ℕ × Entry). x < z.0) (sym is) (lt-from x f.0 (first _ _ h))
 above x (f ∷ fs) h e (inr i) = above x fs (second _ _ h) e i
 
 -- each entry is found at its key
-found : (es : List (ℕ × Entry)) → T (is_sorted nat_cmp es) → (e : ℕ × Entry) → InPairs e es → find nat_cmp e.0 es ≡ Some e.1
+pub found : (es : List (ℕ × Entry)) → T (is_sorted nat_cmp es) → (e : ℕ × Entry) → InPairs e es → find nat_cmp e.0 es ≡ Some e.1
 found [] s e i = absurd i
 found (f ∷ fs) s e (inl is) = subst (λ (z : ℕ × Entry). find nat_cmp z.0 (f ∷ fs) ≡ Some z.1) (sym is) (ap (λ b. cond b (Some f.1) (find nat_cmp f.0 fs)) (tied f.0))
 found (f ∷ fs) s e (inr i) =

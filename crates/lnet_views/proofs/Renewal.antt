@@ -1,5 +1,6 @@
 -- A gate's answer made anew.
 use Rattle.std.proofs.Common.{◌≡◌, ◌≢◌, ℕ, ◌+◌, ◌<◌, ◌≤◌, max, Bool, true, false, List, [], ◌∷◌, length, map, IsSome, Option, None, Some, refl, sym, ap, subst, ◌∙◌, inl, inr, arith, get_or, set, get_or-set_same, get_or-set_other, length-set}
+use Rattle.std.specs.Prelude.{is_some}
 use Rattle.std.proofs.lemmas.Bool.Decides.{eqb_tells}
 use Rattle.lnet_gates.specs.declared.signal.Signal.{Signal}
 use Rattle.lnet_gates.specs.Gates.{GateValue}
@@ -11,7 +12,7 @@ use Rattle.lnet_model.specs.Changes.{with_entry, without, was}
 use Rattle.lnet_model.specs.Visits.{fanouts, fanouts_in, reads_of}
 use Rattle.lnet_views.specs.Repair.{put, SameBut, IsLawful, IsFromScratch, IsRepairing, IsNext, IsTaken, IsSettled, pair_step, pair_eq}
 use Rattle.lnet_views.specs.Rules.{rule_step, made}
-use Rattle.lnet_views.specs.Keeping.{at_level, answer, mark, waiting, level_or, height, tallest, IsMarking, IsSound, IsRunning, spread, all_fanouts, IsKept, scratch}
+use Rattle.lnet_views.specs.Keeping.{at_level, answer, mark, level_or, height, tallest, IsMarking, IsSound, IsRunning, spread, all_fanouts, IsKept, scratch}
 use Rattle.lnet_model.proofs.Along.{Step, pairs-same}
 use Rattle.lnet_model.proofs.Values.{map-pairs}
 use Rattle.lnet_model.proofs.Levels.{level-falls}
@@ -58,14 +59,14 @@ module _ {V : Type 0} (none : V) (values : List V) (levels : List (Option ℕ)) 
     pub renewed-apart : (q : ℕ) → q ≢ n → answer none values2 levels2 q ≡ answer none values levels q
     renewed-apart q ne = (λ i. at_level none (get_or (vs i) q none) (get_or (ls i) q None)) ∙ (λ i. at_level none (get_or-set_other values n q v none ne i) (get_or-set_other levels n q (Some l) None ne i))
 
-    pub renewed-sound : (N : NetworkValue) (waits waits2 : List Bool) → IsLive N n → n < length levels → waits2 ≡ set waits n false → IsSound N values levels waits → IsSound N values2 levels2 waits2
+    pub renewed-sound : (N : NetworkValue) (waits waits2 : List (Option ℕ)) → IsLive N n → n < length levels → waits2 ≡ waits → IsSound N values levels waits → IsSound N values2 levels2 waits2
     renewed-sound N waits waits2 live il ws S =
         let a = ap length vs ∙ length-set values n v in
         let b = ap length ls ∙ length-set levels n (Some l) in
-        let c = ap length ws ∙ length-set waits n false in
+        let c = ap length ws in
         record {
           levels_len = let d = S.levels_len in b ∙ d ∙ sym a;
-          waits_len = c ∙ S.waits_len ∙ sym a;
+          waits_len = (let d = S.waits_len in omega arith);
           room = λ m live. subst (λ z. m < z) (sym a) (S.room m live);
           known = λ m live. subst (λ z. IsSome (get_or z m None)) (sym ls) (elim (eqb_tells m n) as (λ _. IsSome (get_or (set levels n (Some l)) m None)) [
             | inl p ↦ subst IsSome (sym (ap (λ z. get_or (set levels n (Some l)) z None) p.1 ∙ get_or-set_same levels n (Some l) None il)) refl
@@ -78,13 +79,13 @@ module _ {V : Type 0} (none : V) (values : List V) (levels : List (Option ℕ)) 
 pub fanin-live : (N : NetworkValue) (n : ℕ) (g : GateValue) → IsClosed N → entry_at N n ≡ Some (IsGate g) → (m : ℕ) → In m (map (λ (s : Signal). s.node.0) g.fanins) → IsLive N m
 fanin-live N n g closed at m i = closed n m (subst (λ o. In m (fanin_nodes o)) (sym at) i)
 
-pub read-inside : {V : Type 0} (N : NetworkValue) (values : List V) (levels : List (Option ℕ)) (waits : List Bool) (n : ℕ) (g : GateValue) → IsClosed N → IsSound N values levels waits → entry_at N n ≡ Some (IsGate g) → (m : ℕ) → In m (nodes_read g.fanins) → m < length values
+pub read-inside : {V : Type 0} (N : NetworkValue) (values : List V) (levels : List (Option ℕ)) (waits : List (Option ℕ)) (n : ℕ) (g : GateValue) → IsClosed N → IsSound N values levels waits → entry_at N n ≡ Some (IsGate g) → (m : ℕ) → In m (nodes_read g.fanins) → m < length values
 read-inside N values levels waits n g closed S at m i = S.room m (fanin-live N n g closed at m i)
 
-pub read-known : {V : Type 0} (N : NetworkValue) (values : List V) (levels : List (Option ℕ)) (waits : List Bool) (n : ℕ) → IsClosed N → IsSound N values levels waits → (m : ℕ) → IsParent N m n → IsSome (get_or levels m None)
+pub read-known : {V : Type 0} (N : NetworkValue) (values : List V) (levels : List (Option ℕ)) (waits : List (Option ℕ)) (n : ℕ) → IsClosed N → IsSound N values levels waits → (m : ℕ) → IsParent N m n → IsSome (get_or levels m None)
 read-known N values levels waits n closed S m i = S.known m (closed n m i)
 
-pub renewed-settled : {V : Type 0} (eq : V → V → Bool) (none : V) (step : Step (V × ℕ)) (N : NetworkValue) (n : ℕ) (X Y : ℕ → V × ℕ) (before cleared after : List Bool) (same : Bool) → Acyclic N → n < length before → ((q : ℕ) → q ≢ n → Y q ≡ X q) → pair_eq eq (Y n) (once (entry_at N) step (none, 0) X n) ≡ true → same ≡ pair_eq eq (Y n) (X n) → cleared ≡ set before n false → ((m : ℕ) → mark cleared m ≡ true → mark after m ≡ true) → (same ≡ false → (p : ℕ) → IsParent N n p → mark after p ≡ true) → ((m : ℕ) → mark after m ≡ true → mark cleared m ≡ false → IsParent N n m) → IsSettled (pair_eq eq) N n step (none, 0) X Y (mark before) (mark after)
+pub renewed-settled : {V : Type 0} (eq : V → V → Bool) (none : V) (step : Step (V × ℕ)) (N : NetworkValue) (n : ℕ) (X Y : ℕ → V × ℕ) (before cleared after : List (Option ℕ)) (same : Bool) → Acyclic N → n < length before → ((q : ℕ) → q ≢ n → Y q ≡ X q) → pair_eq eq (Y n) (once (entry_at N) step (none, 0) X n) ≡ true → same ≡ pair_eq eq (Y n) (X n) → cleared ≡ set before n None → ((m : ℕ) → mark cleared m ≡ true → mark after m ≡ true) → (same ≡ false → (p : ℕ) → IsParent N n p → mark after p ≡ true) → ((m : ℕ) → mark after m ≡ true → mark cleared m ≡ false → IsParent N n m) → IsSettled (pair_eq eq) N n step (none, 0) X Y (mark before) (mark after)
 renewed-settled eq none step N n X Y before cleared after same acyclic inside each is told clears keeps parents only = record {
   each = each;
   is = is;
@@ -100,10 +101,10 @@ renewed-settled eq none step N n X Y before cleared after same acyclic inside ea
 }
   where
     own : mark cleared n ≡ false
-    own = ap (λ z. mark z n) clears ∙ get_or-set_same before n false false inside
+    own = ap (λ z. mark z n) clears ∙ ap is_some (get_or-set_same before n None None inside)
 
     other : (m : ℕ) → m ≢ n → mark cleared m ≡ mark before m
-    other m ne = ap (λ z. mark z m) clears ∙ get_or-set_other before n m false false ne
+    other m ne = ap (λ z. mark z m) clears ∙ ap is_some (get_or-set_other before n m None None ne)
 
 -- the same where the values were read through a slice of them
 pub renewed-read : {V : Type 0} (none : V) (values read : List V) (levels : List (Option ℕ)) (eq : V → V → Bool) (first : ℕ → V) (gives : ℕ → GateValue → List (Signal × V) → V) (N : NetworkValue) (n : ℕ) (g : GateValue) (v : V) (l : ℕ) → read ≡ values → entry_at N n ≡ Some (IsGate g) → ((m : ℕ) → IsParent N m n → IsSome (get_or levels m None)) → eq v (gives n g (map {B = Signal × V} (λ s. (s, get_or read s.node.0 none)) g.fanins)) ≡ true → l ≡ 1 + tallest levels g.fanins → pair_eq eq (v, l) (once (entry_at N) (pair_step (rule_step first gives)) (none, 0) (answer none values levels) n) ≡ true

@@ -69,7 +69,7 @@ module _ {A : Type 0} (eq : A → A → Bool) (step : Step A) (none : A) (law : 
     parent-apart : (p : ℕ) → IsParent N n p → p ≢ k
     parent-apart p i e = let a = parent-new p i in let b = I.above n next.waits in let c = ap (level N) e in omega arith
 
-    parent-old : (p : ℕ) → IsParent N n p → level M n < level M p
+    pub parent-old : (p : ℕ) → IsParent N n p → level M n < level M p
     parent-old p i = level-falls M cm p n (subst (λ o. In n (fanin_nodes o)) (sym (same p (parent-apart p i))) i)
 
     module _ (v : A) (is : eq v (once (entry_at N) step none V n) ≡ true) (W2 : ℕ → Bool) (w : IsTaken N n (eq v (V n)) W W2) where

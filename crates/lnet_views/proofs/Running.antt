@@ -1,6 +1,6 @@
 -- The repair as it runs.
 use Rattle.std.proofs.Common.{◌≡◌, ◌≢◌, ℕ, ◌+◌, ◌*◌, ◌-◌, ◌<◌, ◌≤◌, zero, suc, Bool, true, false, not, eqb, cond, List, [], ◌∷◌, length, map, IsSome, Option, None, Some, refl, sym, ap, subst, ◌∙◌, inl, inr, arith, get_or, set, get_or-set_same, get_or-set_other, length-set}
-use Rattle.std.specs.Prelude.{◌⊎◌, sum_by}
+use Rattle.std.specs.Prelude.{◌⊎◌, is_some}
 use Rattle.std.specs.FinMap.{keys}
 use Rattle.std.specs.Cmp.{IsEquivalence}
 use Rattle.std.proofs.lemmas.List.Sums.{sum_by-set, sum_by-cons}
@@ -15,9 +15,9 @@ use Rattle.lnet_model.specs.Changes.{with_entry, without, was}
 use Rattle.lnet_model.specs.Visits.{fanouts, fanouts_in, reads_of}
 use Rattle.lnet_views.specs.Repair.{put, SameBut, IsLawful, IsFromScratch, IsRepairing, IsNext, IsTaken, IsSettled, pair_step, pair_eq}
 use Rattle.lnet_views.specs.Rules.{rule_step, made}
-use Rattle.lnet_views.specs.Keeping.{at_level, answer, mark, waiting, level_or, height, tallest, IsMarking, IsSound, IsRunning, spread, all_fanouts, IsKept, scratch}
+use Rattle.lnet_views.specs.Keeping.{at_level, answer, mark, level_or, height, tallest, IsMarking, IsSound, IsRunning, spread, all_fanouts, IsKept, scratch}
 use Rattle.lnet_views.proofs.Pair.{pair-lawful, pair-over, eqb-is, and-right}
-use Rattle.lnet_views.proofs.Repair.{repair-start, repair-end, repair-settled, taken-final, put-of}
+use Rattle.lnet_views.proofs.Repair.{repair-start, repair-end, repair-settled, taken-final, put-of, parent-old}
 use Rattle.lnet_views.proofs.Count.{differing-grow, differing-more, fanouts-grow, live-key}
 use Rattle.lnet_views.proofs.Renewal.{answer-level, gate-live}
 
@@ -45,10 +45,10 @@ parent-gate (Some (Input k)) n i = absurd i
 parent-gate (Some (IsGate g)) n i = refl
 
 module _ {V : Type 0} (eq : V → V → Bool) (first : ℕ → V) (gives : ℕ → GateValue → List (Signal × V) → V) (law : IsLawful eq (rule_step first gives)) (M N : NetworkValue) (k : ℕ) (cm : Acyclic M) (cn : Acyclic N) (same : SameBut M N k) (values0 : List V) (levels0 : List (Option ℕ)) (before : IsKept eq first gives M values0 levels0) where
-  pub run-start : (waits0 waits : List Bool) → IsSound N values0 levels0 waits0 → ((m : ℕ) → mark waits0 m ≡ false) → IsSome (gate_in (entry_at N k)) → ((m : ℕ) → height levels0 m ≤ 1048576) → waits ≡ set waits0 k true → IsRunning eq first gives M N k values0 levels0 values0 levels0 waits
-  run-start waits0 waits S idle gate small is = record {
-    sound = record { levels_len = S.levels_len; waits_len = ap length is ∙ length-set waits0 k true ∙ S.waits_len; room = S.room; known = S.known; dead = S.dead };
-    repairing = repair-start (pair_eq eq) (pair_step (rule_step first gives)) (first 0, 0) (pair-lawful eq (rule_step first gives) law) M N k (level M) (answer (first 0) values0 levels0) (mark waits) cm same before one (ap (λ z. mark z k) is ∙ get_or-set_same waits0 k true false inside);
+  pub run-start : (waits0 waits : List (Option ℕ)) (lv : ℕ) → IsSound N values0 levels0 waits0 → ((m : ℕ) → mark waits0 m ≡ false) → IsSome (gate_in (entry_at N k)) → ((m : ℕ) → height levels0 m ≤ 1048576) → waits ≡ set waits0 k (Some lv) → IsRunning eq first gives M N k values0 levels0 values0 levels0 waits
+  run-start waits0 waits lv S idle gate small is = record {
+    sound = record { levels_len = S.levels_len; waits_len = (let a = ap length is in let b = length-set waits0 k (Some lv) in let d = S.waits_len in omega arith); room = S.room; known = S.known; dead = S.dead };
+    repairing = repair-start (pair_eq eq) (pair_step (rule_step first gives)) (first 0, 0) (pair-lawful eq (rule_step first gives) law) M N k (level M) (answer (first 0) values0 levels0) (mark waits) cm same before one (ap (λ z. mark z k) is ∙ ap is_some (get_or-set_same waits0 k (Some lv) None inside));
     gates = λ m t. subst (λ z. IsSome (gate_in (entry_at N z))) (sym (one m t)) gate;
     small = small;
   }
@@ -57,9 +57,9 @@ module _ {V : Type 0} (eq : V → V → Bool) (first : ℕ → V) (gives : ℕ �
       inside = let r = S.room k (gate-live _ gate) in let l = S.waits_len in omega arith
 
       one : (m : ℕ) → mark waits m ≡ true → m ≡ k
-      one m t = elim (eqb_tells m k) as (λ _. m ≡ k) [ inl p ↦ p.1 | inr p ↦ (let f : true ≡ false = sym t ∙ ap (λ z. mark z m) is ∙ get_or-set_other waits0 k m true false p.1 ∙ idle m in cc) ]
+      one m t = elim (eqb_tells m k) as (λ _. m ≡ k) [ inl p ↦ p.1 | inr p ↦ (let f : true ≡ false = sym t ∙ ap (λ z. mark z m) is ∙ ap is_some (get_or-set_other waits0 k m (Some lv) None p.1) ∙ idle m in cc) ]
 
-  module _ (values : List V) (levels : List (Option ℕ)) (waits : List Bool) (R : IsRunning eq first gives M N k values0 levels0 values levels waits) where
+  module _ (values : List V) (levels : List (Option ℕ)) (waits : List (Option ℕ)) (R : IsRunning eq first gives M N k values0 levels0 values levels waits) where
     -- what waits has its old level
     old-level : (m : ℕ) → mark waits m ≡ true → height levels m ≡ level M m
     old-level m t =
@@ -68,32 +68,48 @@ module _ {V : Type 0} (eq : V → V → Bool) (first : ℕ → V) (gives : ℕ �
         ∙ pair-level eq (answer (first 0) values0 levels0 m) (scratch first gives M m) (before m)
         ∙ ap (λ (p : V × ℕ). p.1) (pair-over M (rule_step first gives) (first 0) cm m)
 
+    -- the parents of what comes next stand no lower
+    pub run-rises : (n p : ℕ) → IsNext (height levels) (mark waits) n → IsParent N n p → height levels n ≤ height levels p
+    run-rises n p next i =
+        let by-old : IsNext (level M) (mark waits) n = record { waits = next.waits; least = λ m t. let a = next.least m t in let b = old-level n next.waits in let c = old-level m t in omega arith } in
+        let up = parent-old (pair_eq eq) (pair_step (rule_step first gives)) (first 0, 0) (pair-lawful eq (rule_step first gives) law) M N k (answer (first 0) values0 levels0) (answer (first 0) values levels) (mark waits) cm cn same R.repairing n by-old p i in
+        let here = old-level n next.waits in
+        let there : height levels p ≡ level M p = sym (answer-level (first 0) values levels p)
+          ∙ ap (λ (q : V × ℕ). q.1) (R.repairing.later p n next.waits up)
+          ∙ pair-level eq (answer (first 0) values0 levels0 p) (scratch first gives M p) (before p)
+          ∙ ap (λ (q : V × ℕ). q.1) (pair-over M (rule_step first gives) (first 0) cm p) in
+        omega arith
+
     pub run-end : ((m : ℕ) → mark waits m ≡ false) → IsKept eq first gives N values levels
     run-end idle = repair-end (pair_eq eq) (pair_step (rule_step first gives)) (first 0, 0) (pair-lawful eq (rule_step first gives) law) N k (level M) (answer (first 0) values0 levels0) (answer (first 0) values levels) (mark waits) cn R.repairing idle
 
-    module _ (n : ℕ) (next : IsNext (height levels) (mark waits) n) (values2 : List V) (levels2 : List (Option ℕ)) (waits2 : List Bool) (S : IsSound N values2 levels2 waits2) (s : IsSettled (pair_eq eq) N n (pair_step (rule_step first gives)) (first 0, 0) (answer (first 0) values levels) (answer (first 0) values2 levels2) (mark waits) (mark waits2)) where
+    module _ (n : ℕ) (next : IsNext (height levels) (mark waits) n) (values2 : List V) (levels2 : List (Option ℕ)) (waits2 : List (Option ℕ)) (S : IsSound N values2 levels2 waits2) (s : IsSettled (pair_eq eq) N n (pair_step (rule_step first gives)) (first 0, 0) (answer (first 0) values levels) (answer (first 0) values2 levels2) (mark waits) (mark waits2)) where
       by-old : IsNext (level M) (mark waits) n
       by-old = record { waits = next.waits; least = λ m t. let a = next.least m t in let b = old-level n next.waits in let c = old-level m t in omega arith }
+
+      -- a bound on levels that holds of the network and of what was kept holds of what is kept
+      pub run-low : (top : ℕ) → ((m : ℕ) → level N m ≤ top) → ((m : ℕ) → height levels m ≤ top) → (m : ℕ) → height levels2 m ≤ top
+      run-low top limit low m = elim (eqb_tells m n) as (λ _. height levels2 m ≤ top) [ inl p ↦ subst (λ z. height levels2 z ≤ top) (sym p.1) here | inr p ↦ apart m p.1 ]
+        where
+          here : height levels2 n ≤ top
+          here =
+              let final = taken-final (pair_eq eq) (pair_step (rule_step first gives)) (first 0, 0) (pair-lawful eq (rule_step first gives) law) M N k (answer (first 0) values0 levels0) (answer (first 0) values levels) (mark waits) cm cn same R.repairing n by-old (answer (first 0) values2 levels2 n) s.is in
+              let e = sym (answer-level (first 0) values2 levels2 n) ∙ pair-level eq (answer (first 0) values2 levels2 n) (scratch first gives N n) final ∙ ap (λ (p : V × ℕ). p.1) (pair-over N (rule_step first gives) (first 0) cn n) in
+              let l = limit n in
+              subst (λ z. z ≤ top) (sym e) l
+
+          apart : (m : ℕ) → m ≢ n → height levels2 m ≤ top
+          apart m ne =
+              let e = sym (answer-level (first 0) values2 levels2 m) ∙ ap (λ (p : V × ℕ). p.1) (s.each m ne) ∙ answer-level (first 0) values levels m in
+              subst (λ z. z ≤ top) (sym e) (low m)
 
       pub run-step : ((m : ℕ) → level N m ≤ 1048576) → IsRunning eq first gives M N k values0 levels0 values2 levels2 waits2
       run-step limit = record {
         sound = S;
         repairing = repair-settled (pair_eq eq) (pair_step (rule_step first gives)) (first 0, 0) (pair-lawful eq (rule_step first gives) law) M N k (answer (first 0) values0 levels0) (answer (first 0) values levels) (mark waits) cm cn same R.repairing n by-old (answer (first 0) values2 levels2) (mark waits2) s;
         gates = λ m t. elim (mark waits m) as (λ b. (mark waits m ≡ b) → IsSome (gate_in (entry_at N m))) [ true ↦ λ e. R.gates m e | false ↦ λ e. parent-gate (entry_at N m) n (s.taken.only m t e) ] refl;
-        small = λ m. elim (eqb_tells m n) as (λ _. height levels2 m ≤ 1048576) [ inl p ↦ subst (λ z. height levels2 z ≤ 1048576) (sym p.1) here | inr p ↦ apart m p.1 ];
+        small = run-low 1048576 limit R.small;
       }
-        where
-          here : height levels2 n ≤ 1048576
-          here =
-              let final = taken-final (pair_eq eq) (pair_step (rule_step first gives)) (first 0, 0) (pair-lawful eq (rule_step first gives) law) M N k (answer (first 0) values0 levels0) (answer (first 0) values levels) (mark waits) cm cn same R.repairing n by-old (answer (first 0) values2 levels2 n) s.is in
-              let e = sym (answer-level (first 0) values2 levels2 n) ∙ pair-level eq (answer (first 0) values2 levels2 n) (scratch first gives N n) final ∙ ap (λ (p : V × ℕ). p.1) (pair-over N (rule_step first gives) (first 0) cn n) in
-              let l = limit n in
-              subst (λ z. z ≤ 1048576) (sym e) l
-
-          apart : (m : ℕ) → m ≢ n → height levels2 m ≤ 1048576
-          apart m ne =
-              let e = sym (answer-level (first 0) values2 levels2 m) ∙ ap (λ (p : V × ℕ). p.1) (s.each m ne) ∙ answer-level (first 0) values levels m in
-              subst (λ z. z ≤ 1048576) (sym e) (R.small m)
 
       -- a change brings n's fanout
       pub spread-step : spread eq (first 0) N values0 levels0 values levels + cond (pair_eq eq (answer (first 0) values2 levels2 n) (answer (first 0) values levels n)) 0 (length (fan N n)) ≤ spread eq (first 0) N values0 levels0 values2 levels2
@@ -122,20 +138,6 @@ module _ {V : Type 0} (eq : V → V → Bool) (first : ℕ → V) (gives : ℕ �
 pub spread-limit : {V : Type 0} (eq : V → V → Bool) (none : V) (N : NetworkValue) (values0 : List V) (levels0 : List (Option ℕ)) (values : List V) (levels : List (Option ℕ)) → spread eq none N values0 levels0 values levels ≤ all_fanouts N
 unfolding fanouts_in
 spread-limit eq none N values0 levels0 values levels = fanouts-grow N _ _ (keys N.nodes) (λ x d. refl)
-
-zero-sum : (a b : ℕ) → a ≡ 0 → b ≡ 0 → a + b ≡ 0
-zero-sum a b e f = omega arith
-
-pub waiting-none : (ws : List Bool) → ((m : ℕ) → mark ws m ≡ false) → waiting ws ≡ 0
-waiting-none [] idle = refl
-waiting-none (w ∷ ws) idle = sum_by-cons (λ (b : Bool). cond b 1 0) w ws ∙ zero-sum (cond w 1 0) (waiting ws) (ap (λ (b : Bool). cond {A = ℕ} b 1 0) (idle 0)) (waiting-none ws (λ m. idle (suc m)))
-
--- one mark alone
-pub waiting-one : (ws : List Bool) (k : ℕ) → k < length ws → ((m : ℕ) → mark ws m ≡ false) → waiting (set ws k true) ≤ 1
-waiting-one ws k inside idle =
-    let none = waiting-none ws idle in
-    let s = sum_by-set (λ (b : Bool). cond b 1 0) ws k true false inside in
-    omega arith
 
 pub cond-twice : (b : Bool) (f : ℕ) → cond b 0 (2 * f) ≡ 2 * cond b 0 f
 cond-twice true f = omega arith

@@ -53,7 +53,7 @@ pair-none (Some v) None e h = refl
 pair-none {V} (Some v) (Some l) e h = let z : ◌≡◌ {A = Option (V × ℕ)} (Some (v, l)) None = e in cc
 
 module _ {V : Type 0} (eq : V → V → Bool) (first : ℕ → V) (gives : ℕ → GateValue → List (Signal × V) → V) (N : NetworkValue) (acyclic : Acyclic N) (values : List V) (levels : List (Option ℕ)) where
-  pub to-step : (waits : List Bool) → IsKept eq first gives N values levels → IsSound N values levels waits → IsInStep eq first gives (kept_at values levels) N
+  pub to-step : (waits : List (Option ℕ)) → IsKept eq first gives N values levels → IsSound N values levels waits → IsInStep eq first gives (kept_at values levels) N
   unfolding kept_at
   to-step waits kept S = record {
     live = λ n live.
@@ -82,7 +82,7 @@ module _ {V : Type 0} (eq : V → V → Bool) (first : ℕ → V) (gives : ℕ �
         (λ i. pair_eq eq (is i) (pair-over N (rule_step first gives) (first 0) acyclic n i)) ∙ both _ _ k.3 (eqb-same _ _ k.4))
     ] refl
 
-    pub from-sound : (waits : List Bool) → length waits ≡ length values → AreBelow N (length values) → IsSound N values levels waits
+    pub from-sound : (waits : List (Option ℕ)) → length values ≤ length waits → AreBelow N (length values) → IsSound N values levels waits
     from-sound waits same room = record {
       levels_len = len;
       waits_len = same;
@@ -165,8 +165,8 @@ same-kept values levels levels2 same n = ap (paired (slice_get values n)) (same 
 
 -- ---- heights
 
-pub kept-small : {V : Type 0} (eq : V → V → Bool) (first : ℕ → V) (gives : ℕ → GateValue → List (Signal × V) → V) (N : NetworkValue) → Acyclic N → (values : List V) (levels : List (Option ℕ)) → IsKept eq first gives N values levels → live_count N ≤ NUMBERS → (n : ℕ) → height levels n ≤ NUMBERS
-kept-small eq first gives N acyclic values levels kept few n =
+pub kept-small : {V : Type 0} (eq : V → V → Bool) (first : ℕ → V) (gives : ℕ → GateValue → List (Signal × V) → V) (N : NetworkValue) → Acyclic N → (values : List V) (levels : List (Option ℕ)) → IsKept eq first gives N values levels → (top : ℕ) → ((n : ℕ) → level N n ≤ top) → (n : ℕ) → height levels n ≤ top
+kept-small eq first gives N acyclic values levels kept top low n =
     let is = sym (answer-level (first 0) values levels n) ∙ eqb-is _ _ (and-right (eq (answer (first 0) values levels n).0 (scratch first gives N n).0) _ (kept n)) ∙ ap (λ (p : _ × ℕ). p.1) (pair-over N (rule_step first gives) (first 0) acyclic n) in
-    let h = level-small N n in
+    let h = low n in
     omega arith

@@ -13,9 +13,9 @@ abbrev pub undone : List (Option ℕ) → ℕ
 undone levels = sum_by (λ o. cond (is_some o) 0 1) levels
 
 -- each answer that is there is right
-pub record IsBuilding {V : Type 0} (eq : V → V → Bool) (first : ℕ → V) (gives : ℕ → GateValue → List (Signal × V) → V) (N : NetworkValue) (values : List V) (levels : List (Option ℕ)) (waits : List Bool) : Type 0 where
+pub record IsBuilding {V : Type 0} (eq : V → V → Bool) (first : ℕ → V) (gives : ℕ → GateValue → List (Signal × V) → V) (N : NetworkValue) (values : List V) (levels : List (Option ℕ)) (waits : List (Option ℕ)) : Type 0 where
   pub levels_len : length levels ≡ length values
-  pub waits_len : length waits ≡ length values
+  pub waits_len : length values ≤ length waits
   pub room : (m : ℕ) → IsLive N m → m < length values
   pub idle : (m : ℕ) → mark waits m ≡ false
   pub done : (m : ℕ) → IsSome (slice_index_or levels m None) → IsLive N m × (pair_eq eq (answer (first 0) values levels m) (scratch first gives N m) ≡ true)

@@ -1,5 +1,5 @@
 -- How answers are kept: a list of values, a list of levels where a number is live, and marks of those that wait.
-use Rattle.std.specs.Prelude.{◌≡◌, max, ◌⊎◌, ℕ, ◌+◌, ◌*◌, ◌<◌, ◌≤◌, Bool, true, false, not, cond, List, [], ◌∷◌, map, length, sum_by, slice_index_or, slice_get, IsSome, Option, None, Some}
+use Rattle.std.specs.Prelude.{◌≡◌, max, ◌⊎◌, ℕ, ◌+◌, ◌*◌, ◌<◌, ◌≤◌, Bool, true, false, not, cond, List, [], ◌∷◌, map, length, slice_index_or, slice_get, is_some, IsSome, Option, None, Some}
 use Rattle.lnet_gates.specs.declared.signal.Signal.{Signal}
 use Rattle.lnet_gates.specs.Gates.{GateValue}
 use Rattle.lnet_model.specs.Networks.{Entry, NetworkValue, entry_at, gate_in, IsLive}
@@ -19,11 +19,9 @@ at_level none v (Some l) = (v, l)
 abbrev pub answer : {V : Type 0} → V → List V → List (Option ℕ) → ℕ → V × ℕ
 answer none values levels n = at_level none (slice_index_or values n none) (slice_index_or levels n None)
 
-abbrev pub mark : List Bool → ℕ → Bool
-mark waits n = slice_index_or waits n false
-
-abbrev pub waiting : List Bool → ℕ
-waiting waits = sum_by (λ b. cond b 1 0) waits
+-- whether a number waits
+abbrev pub mark : List (Option ℕ) → ℕ → Bool
+mark waits n = is_some (slice_index_or waits n None)
 
 abbrev pub level_or : Option ℕ → ℕ
 level_or None = 0
@@ -34,12 +32,16 @@ abbrev pub height : List (Option ℕ) → ℕ → ℕ
 height levels n = level_or (slice_index_or levels n None)
 
 -- while n's parents are marked: `before` are the marks before, and `rest` are the parents still to come
-pub record IsMarking (N : NetworkValue) (n : ℕ) (before waits : List Bool) (rest : List (ℕ × ℕ)) : Type 0 where
+pub record IsMarking (N : NetworkValue) (n : ℕ) (before waits : List (Option ℕ)) (rest : List (ℕ × ℕ)) : Type 0 where
   pub len : length waits ≡ length before
   pub kept : (m : ℕ) → mark before m ≡ true → mark waits m ≡ true
   pub todo : (p : ℕ) → In p (map (λ r. r.0) rest) → IsParent N n p
   pub done : (p : ℕ) → IsParent N n p → (mark waits p ≡ true) ⊎ In p (map (λ r. r.0) rest)
   pub only : (m : ℕ) → mark waits m ≡ true → mark before m ≡ false → IsParent N n m
+
+-- what waits does so at its level
+abbrev pub IsTied : List (Option ℕ) → List (Option ℕ) → Type 0
+IsTied levels waits = (m l : ℕ) → slice_index_or waits m None ≡ Some l → height levels m ≡ l
 
 -- the greatest of the levels kept for the signals' nodes
 abbrev pub tallest : List (Option ℕ) → List Signal → ℕ
@@ -47,15 +49,15 @@ tallest levels [] = 0
 tallest levels (s ∷ ss) = max (height levels s.node.0) (tallest levels ss)
 
 -- room for each live number, and levels at the live numbers alone
-pub record IsSound {V : Type 0} (N : NetworkValue) (values : List V) (levels : List (Option ℕ)) (waits : List Bool) : Type 0 where
+pub record IsSound {V : Type 0} (N : NetworkValue) (values : List V) (levels : List (Option ℕ)) (waits : List (Option ℕ)) : Type 0 where
   pub levels_len : length levels ≡ length values
-  pub waits_len : length waits ≡ length values
+  pub waits_len : length values ≤ length waits
   pub room : (m : ℕ) → IsLive N m → m < length values
   pub known : (m : ℕ) → IsLive N m → IsSome (slice_index_or levels m None)
   pub dead : (m : ℕ) → entry_at N m ≡ None → slice_index_or levels m None ≡ None
 
 -- the answers under repair after an event at k made N of M, where `values0` and `levels0` stood before
-pub record IsRunning {V : Type 0} (eq : V → V → Bool) (first : ℕ → V) (gives : ℕ → GateValue → List (Signal × V) → V) (M N : NetworkValue) (k : ℕ) (values0 : List V) (levels0 : List (Option ℕ)) (values : List V) (levels : List (Option ℕ)) (waits : List Bool) : Type 0 where
+pub record IsRunning {V : Type 0} (eq : V → V → Bool) (first : ℕ → V) (gives : ℕ → GateValue → List (Signal × V) → V) (M N : NetworkValue) (k : ℕ) (values0 : List V) (levels0 : List (Option ℕ)) (values : List V) (levels : List (Option ℕ)) (waits : List (Option ℕ)) : Type 0 where
   pub sound : IsSound N values levels waits
   pub repairing : IsRepairing (pair_eq eq) N k (pair_step (rule_step first gives)) (first 0, 0) (level M) (answer (first 0) values0 levels0) (answer (first 0) values levels) (mark waits)
   pub gates : (m : ℕ) → mark waits m ≡ true → IsSome (gate_in (entry_at N m))

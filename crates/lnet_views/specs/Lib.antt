@@ -4,3 +4,4 @@ pub mod Keeping
 pub mod Building
 pub mod Follows
 pub mod DepthViews
+pub mod Chains

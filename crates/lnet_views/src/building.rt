@@ -8,10 +8,11 @@ ghost use Rattle.lnet_model.specs.Networks.{IsLive, entry_at, live_count};
 ghost use Rattle.lnet_model.specs.Along.{In, fanin_nodes, nodes_read};
 ghost use Rattle.lnet_model.specs.Dags.{IsDag, IsStored, NUMBERS, numbers_of};
 ghost use Rattle.lnet_views.specs.Rules.{IsInStep};
-ghost use Rattle.lnet_views.specs.Keeping.{mark, height, kept_at};
+ghost use Rattle.lnet_views.specs.Keeping.{height, kept_at};
+ghost use Rattle.lnet_views.specs.Chains.{IsIdle};
 ghost use Rattle.lnet_views.specs.Building.{IsBuilding, undone};
 
-use crate::kept::{Kept, lengthen, level_above, place};
+use crate::kept::{Kept, level_above, make_room, place};
 use crate::rule::Rule;
 use lnet_gates::{Gate, Node};
 use lnet_store::Store;
@@ -45,9 +46,10 @@ fn visit<R: Rule>(kept: &mut Kept<R::Value>, rule: &R, n: Node, store: &Store) -
     requires small { live_count store.now.network ≤ NUMBERS }
     requires live { IsLive store.now.network n.0 }
     requires todo { slice_index_or kept.old.levels.items n.0 None ≡ None }
-    requires building { IsBuilding R.Value.eq (R.first_of rule.now) (R.gives rule.now) store.now.network kept.old.values.items kept.old.levels.items kept.old.waits.items }
-    ensures building { IsBuilding R.Value.eq (R.first_of rule.now) (R.gives rule.now) store.now.network kept.new.values.items kept.new.levels.items kept.new.waits.items }
+    requires building { IsBuilding R.Value.eq (R.first_of rule.now) (R.gives rule.now) store.now.network kept.old.values.items kept.old.levels.items kept.old.queue.levels.items }
+    ensures building { IsBuilding R.Value.eq (R.first_of rule.now) (R.gives rule.now) store.now.network kept.new.values.items kept.new.levels.items kept.new.queue.levels.items }
     ensures len { length kept.new.levels.items ≡ length kept.old.levels.items }
+    ensures queue { kept.new.queue ≡ kept.old.queue }
     ensures same { (q : ℕ) → q ≢ n.0 → slice_index_or kept.new.levels.items q None ≡ slice_index_or kept.old.levels.items q None }
     ensures step { MatchOption result (IsSome (slice_index_or kept.new.levels.items n.0 None) × (undone kept.new.levels.items + 1 ≡ undone kept.old.levels.items)) (λ m. (kept.new.levels.items ≡ kept.old.levels.items) × In m.0 (fanin_nodes (entry_at store.now.network n.0)) × (slice_index_or kept.old.levels.items m.0 None ≡ None)) }
 {
@@ -75,9 +77,10 @@ fn complete<R: Rule>(kept: &mut Kept<R::Value>, rule: &R, n: Node, store: &Store
     requires live { IsLive store.now.network n.0 }
     requires todo { slice_index_or kept.old.levels.items n.0 None ≡ None }
     requires empty { stack.old.items ≡ [] }
-    requires building { IsBuilding R.Value.eq (R.first_of rule.now) (R.gives rule.now) store.now.network kept.old.values.items kept.old.levels.items kept.old.waits.items }
-    ensures building { IsBuilding R.Value.eq (R.first_of rule.now) (R.gives rule.now) store.now.network kept.new.values.items kept.new.levels.items kept.new.waits.items }
+    requires building { IsBuilding R.Value.eq (R.first_of rule.now) (R.gives rule.now) store.now.network kept.old.values.items kept.old.levels.items kept.old.queue.levels.items }
+    ensures building { IsBuilding R.Value.eq (R.first_of rule.now) (R.gives rule.now) store.now.network kept.new.values.items kept.new.levels.items kept.new.queue.levels.items }
     ensures len { length kept.new.levels.items ≡ length kept.old.levels.items }
+    ensures queue { kept.new.queue ≡ kept.old.queue }
     ensures grows { (q : ℕ) → IsSome (slice_index_or kept.old.levels.items q None) → IsSome (slice_index_or kept.new.levels.items q None) }
     ensures done { OnOk result (IsSome (slice_index_or kept.new.levels.items n.0 None)) }
     ensures empty { OnOk result (stack.new.items ≡ []) }
@@ -100,9 +103,10 @@ fn complete<R: Rule>(kept: &mut Kept<R::Value>, rule: &R, n: Node, store: &Store
 /// Computes the answer at each live number.
 fn complete_all<R: Rule>(kept: &mut Kept<R::Value>, rule: &R, store: &Store) -> Result<(), AllocError>
     requires room { numbers_of store.now.network ≤ length kept.old.values.items }
-    requires building { IsBuilding R.Value.eq (R.first_of rule.now) (R.gives rule.now) store.now.network kept.old.values.items kept.old.levels.items kept.old.waits.items }
-    ensures building { IsBuilding R.Value.eq (R.first_of rule.now) (R.gives rule.now) store.now.network kept.new.values.items kept.new.levels.items kept.new.waits.items }
+    requires building { IsBuilding R.Value.eq (R.first_of rule.now) (R.gives rule.now) store.now.network kept.old.values.items kept.old.levels.items kept.old.queue.levels.items }
+    ensures building { IsBuilding R.Value.eq (R.first_of rule.now) (R.gives rule.now) store.now.network kept.new.values.items kept.new.levels.items kept.new.queue.levels.items }
     ensures len { length kept.new.levels.items ≡ length kept.old.levels.items }
+    ensures queue { kept.new.queue ≡ kept.old.queue }
     ensures done { OnOk result ((m : ℕ) → IsLive store.now.network m → IsSome (slice_index_or kept.new.levels.items m None)) }
 {
     let mut stack = Vec::new(*kept.levels.allocator());
@@ -130,28 +134,30 @@ fn fill<R: Rule>(values: &mut Vec<R::Value>, rule: &R, room: usize) -> Result<()
     Ok(())
 }
 
-/// Makes room for at least so many numbers, which have no answer; refused, all stays.
+/// Makes room for at least so many numbers, which have no answer.
 pub fn grow<R: Rule>(kept: &mut Kept<R::Value>, rule: &R, numbers: u32) -> Result<(), AllocError>
     requires values { length kept.old.values.items ≡ length kept.old.levels.items }
-    requires waits { length kept.old.waits.items ≡ length kept.old.levels.items }
+    requires idle { IsIdle kept.old.queue }
+    requires waits { length kept.old.levels.items ≤ length kept.old.queue.levels.items }
     requires few { length kept.old.levels.items ≤ 4294967295 }
+    requires heads { length kept.old.levels.items < length kept.old.queue.heads.items }
     ensures values { length kept.new.values.items ≡ length kept.new.levels.items }
-    ensures waits { length kept.new.waits.items ≡ length kept.new.levels.items }
+    ensures idle { IsIdle kept.new.queue }
+    ensures waits { length kept.new.levels.items ≤ length kept.new.queue.levels.items }
     ensures few { length kept.new.levels.items ≤ 4294967295 }
+    ensures heads { length kept.new.levels.items < length kept.new.queue.heads.items }
     ensures grows { length kept.old.levels.items ≤ length kept.new.levels.items }
     ensures room { OnOk result (numbers ≤ length kept.new.levels.items) }
     ensures same { (n : ℕ) → kept_at kept.new.values.items kept.new.levels.items n ≡ kept_at kept.old.values.items kept.old.levels.items n }
     ensures levels { (n : ℕ) → slice_index_or kept.new.levels.items n None ≡ slice_index_or kept.old.levels.items n None }
-    ensures marks { (n : ℕ) → mark kept.new.waits.items n ≡ mark kept.old.waits.items n }
 {
     let old = kept.levels.len();
-    lengthen(&mut kept.levels, &mut kept.waits, numbers)?;
+    make_room(&mut kept.levels, &mut kept.queue, numbers)?;
     match fill(&mut kept.values, rule, kept.levels.len()) {
         Ok(()) => Ok(()),
         Err(refused) => {
             kept.values.truncate(old);
             kept.levels.truncate(old);
-            kept.waits.truncate(old);
             Err(refused)
         }
     }
@@ -159,21 +165,23 @@ pub fn grow<R: Rule>(kept: &mut Kept<R::Value>, rule: &R, numbers: u32) -> Resul
 
 /// Computes all answers from scratch, where none are kept.
 pub fn build<R: Rule>(kept: &mut Kept<R::Value>, rule: &R, store: &Store) -> Result<(), AllocError>
-    requires waits { length kept.old.waits.items ≡ length kept.old.levels.items }
+    requires idle { IsIdle kept.old.queue }
+    requires waits { length kept.old.levels.items ≤ length kept.old.queue.levels.items }
     requires few { length kept.old.levels.items ≤ 4294967295 }
-    requires idle { (n : ℕ) → mark kept.old.waits.items n ≡ false }
     requires empty { (n : ℕ) → slice_index_or kept.old.levels.items n None ≡ None }
-    ensures waits { length kept.new.waits.items ≡ length kept.new.levels.items }
+    ensures idle { IsIdle kept.new.queue }
+    ensures waits { length kept.new.levels.items ≤ length kept.new.queue.levels.items }
     ensures few { length kept.new.levels.items ≤ 4294967295 }
-    ensures idle { (n : ℕ) → mark kept.new.waits.items n ≡ false }
     ensures values { OnOk result (length kept.new.values.items ≡ length kept.new.levels.items) }
+    ensures heads { OnOk result (length kept.new.levels.items < length kept.new.queue.heads.items) }
     ensures small { OnOk result ((n : ℕ) → height kept.new.levels.items n ≤ NUMBERS) }
+    ensures low { OnOk result ((n : ℕ) → height kept.new.levels.items n ≤ length kept.new.levels.items) }
     ensures room { OnOk result (numbers_of store.now.network ≤ length kept.new.levels.items) }
     ensures in_step { OnOk result (IsInStep R.Value.eq (R.first_of rule.now) (R.gives rule.now) (kept_at kept.new.values.items kept.new.levels.items) store.now.network) }
 {
     let (look, _visits) = store.look();
     let _live_count = look.live_count();
-    lengthen(&mut kept.levels, &mut kept.waits, store.numbers())?;
+    make_room(&mut kept.levels, &mut kept.queue, store.numbers())?;
     kept.values.clear();
     fill(&mut kept.values, rule, kept.levels.len())?;
     complete_all(kept, rule, store)?;

@@ -1,12 +1,14 @@
 //! Answers by a rule that follow a network event by event.
 
-ghost use Rattle.std.specs.Prelude.{◌≡◌, ℕ, ◌+◌, ◌≤◌, length, slice_index_or, is_some, true, false, None, Some, OnOk, OnErr, IfOk, option_map};
+ghost use Rattle.std.specs.Prelude.{◌≡◌, ℕ, ◌+◌, ◌<◌, ◌≤◌, length, slice_index_or, is_some, true, false, None, Some, OnOk, OnErr, IfOk, option_map};
 ghost use Rattle.lnet_model.specs.Changes.{was, IsEvent};
 ghost use Rattle.lnet_model.specs.Dags.{IsDag, AreBelow, NUMBERS, numbers_of};
-ghost use Rattle.lnet_views.specs.Keeping.{mark, height};
+ghost use Rattle.lnet_views.specs.Keeping.{height};
+ghost use Rattle.lnet_views.specs.Chains.{IsIdle};
 
 use crate::building::{build, grow};
-use crate::kept::{Kept, clear, lengthen, level_of, value_of};
+use crate::kept::{Kept, clear, level_of, make_room, value_of};
+use crate::queue::Queue;
 use crate::repairing::follow;
 use crate::rule::Rule;
 use lnet_gates::Node;
@@ -17,20 +19,22 @@ use std::alloc::{AllocError, Global};
 /// For each live node of a network its value by a rule and its level, kept in step event by event.
 ///
 /// A follower is detached, or attached by a rule. Its invariants, by the names of the ghost fields:
-/// - `waits_len`, `full`: the three lists have one length, but for the values while it is detached;
-/// - `few`: that length is a `u32`;
-/// - `idle`: nothing waits between calls;
-/// - `small`: a level is at most 1,048,576;
+/// - `few`: it has room for at most `u32::MAX` numbers;
+/// - `full`, `heads`: while it is attached, it has a value for each number with room, and a chain for each level;
+/// - `waits_len`, `idle`: each number with room can wait, and none does between calls;
+/// - `small`, `low`: a level is at most 1,048,576, and at most the room;
 /// - `empty`: it keeps no answer while it is detached.
 #[derive(Drop)]
 pub struct Follow<R: Rule> {
     rule: Option<R>,
     kept: Kept<R::Value>,
-    ghost waits_len: { length kept.waits.items ≡ length kept.levels.items },
     ghost few: { length kept.levels.items ≤ 4294967295 },
-    ghost idle: { (n : ℕ) → mark kept.waits.items n ≡ false },
+    ghost waits_len: { length kept.levels.items ≤ length kept.queue.levels.items },
+    ghost idle: { IsIdle kept.queue },
     ghost small: { (n : ℕ) → height kept.levels.items n ≤ NUMBERS },
+    ghost low: { (n : ℕ) → height kept.levels.items n ≤ length kept.levels.items },
     ghost full: { is_some rule ≡ true → length kept.values.items ≡ length kept.levels.items },
+    ghost heads: { is_some rule ≡ true → length kept.levels.items < length kept.queue.heads.items },
     ghost empty: { is_some rule ≡ false → (n : ℕ) → slice_index_or kept.levels.items n None ≡ None },
 }
 
@@ -47,7 +51,7 @@ impl<R: Rule> Follow<R> {
             kept: Kept {
                 values: Vec::new(alloc),
                 levels: Vec::new(alloc),
-                waits: Vec::new(alloc),
+                queue: Queue::new(alloc),
             },
         })
     }
@@ -98,7 +102,7 @@ impl<R: Rule> Follow<R> {
     {
         match &self.rule {
             Some(rule) => grow(&mut self.kept, rule, numbers),
-            None => lengthen(&mut self.kept.levels, &mut self.kept.waits, numbers),
+            None => make_room(&mut self.kept.levels, &mut self.kept.queue, numbers),
         }
     }
 

@@ -1,19 +1,21 @@
-//! What is kept by number: values, levels, and marks of the numbers that wait.
+//! What is kept by number: values, levels, and which numbers wait.
 
-ghost use Rattle.std.specs.Prelude.{◌≡◌, ℕ, ◌+◌, ◌<◌, ◌≤◌, ◌↔◌, length, slice_index_or, slice_get, option_map, slice_set, MatchOption, IsSome, IsTrue, OnOk, OnErr, true, false, Some, None};
+ghost use Rattle.std.specs.Prelude.{◌≡◌, ℕ, ◌+◌, ◌<◌, ◌≤◌, length, slice_index_or, slice_get, option_map, slice_set, IsSome, OnOk, OnErr, Some, None};
 ghost use Rattle.lnet_model.specs.Dags.{NUMBERS};
-ghost use Rattle.lnet_views.specs.Repair.{pair_eq, IsNext};
-ghost use Rattle.lnet_views.specs.Keeping.{answer, mark, height, tallest};
+ghost use Rattle.lnet_views.specs.Repair.{pair_eq};
+ghost use Rattle.lnet_views.specs.Chains.{IsIdle};
+ghost use Rattle.lnet_views.specs.Keeping.{answer, height, tallest};
 
+use crate::queue::{Queue, lengthen};
 use lnet_gates::{Gate, Node};
 use std::alloc::AllocError;
 
-/// Lists of one length: by number a value, a level where the number is live, and whether it waits for its repair.
+/// By number a value, and a level where the number is live; and the numbers that wait for their repair.
 #[derive(Drop)]
 pub struct Kept<V> {
     pub values: Vec<V>,
     pub levels: Vec<Option<u32>>,
-    pub waits: Vec<bool>,
+    pub queue: Queue,
 }
 
 /// The level kept for a number.
@@ -34,7 +36,7 @@ pub fn value_of<V>(values: &Vec<V>, n: Node) -> Option<&V>
 }
 
 /// The level kept for a number, 0 where there is none.
-fn height_of(levels: &Vec<Option<u32>>, n: Node) -> u32
+pub fn height_of(levels: &Vec<Option<u32>>, n: Node) -> u32
     ensures { result ≡ height levels.now.items n.0 }
 {
     match levels.get(n.0 as usize) {
@@ -66,74 +68,45 @@ pub fn is_same<V: Eq>(values: &Vec<V>, levels: &Vec<Option<u32>>, n: Node, value
     levels[at] == Some(level) && *value == values[at]
 }
 
-/// Keeps a value and a level for the number, which then doesn't wait.
+/// Keeps a value and a level for the number.
 pub fn place<V: Drop>(kept: &mut Kept<V>, n: Node, value: V, level: u32)
     requires values { n.0 < length kept.old.values.items }
     requires levels { length kept.old.levels.items ≡ length kept.old.values.items }
-    requires waits { length kept.old.waits.items ≡ length kept.old.values.items }
     ensures values { kept.new.values.items ≡ slice_set kept.old.values.items n.0 value }
     ensures levels { kept.new.levels.items ≡ slice_set kept.old.levels.items n.0 (Some level) }
-    ensures waits { kept.new.waits.items ≡ slice_set kept.old.waits.items n.0 false }
+    ensures queue { kept.new.queue ≡ kept.old.queue }
 {
     let at = n.0 as usize;
     kept.values[at] = value;
     kept.levels[at] = Some(level);
-    kept.waits[at] = false;
 }
 
-/// Of the numbers that wait the first of the lowest level.
-pub fn next_waiting(levels: &Vec<Option<u32>>, waits: &Vec<bool>) -> Option<Node>
-    requires few { length waits.now.items ≤ 4294967295 }
-    ensures { MatchOption result ((m : ℕ) → mark waits.now.items m ≡ false) (λ n. IsNext (height levels.now.items) (mark waits.now.items) n.0) }
-{
-    let mut best = None;
-    for i in 0..waits.len() as u32 {
-        if waits[i as usize] && is_lower(levels, Node(i), best) {
-            best = Some(Node(i));
-        }
-    }
-    best
-}
-
-/// Whether the number's level is lower than that of the best so far.
-fn is_lower(levels: &Vec<Option<u32>>, n: Node, best: Option<Node>) -> bool
-    ensures { MatchOption best (result ≡ true) (λ b. IsTrue result ↔ (height levels.now.items n.0 < height levels.now.items b.0)) }
-{
-    match best {
-        Some(best) => height_of(levels, n) < height_of(levels, best),
-        None => true,
-    }
-}
-
-/// Lengthens both lists to at least so many numbers, which have no level and don't wait; both or neither.
-pub fn lengthen(levels: &mut Vec<Option<u32>>, waits: &mut Vec<bool>, numbers: u32) -> Result<(), AllocError>
-    requires len { length waits.old.items ≡ length levels.old.items }
+/// Makes room for at least so many numbers, which have no level and don't wait.
+pub fn make_room(levels: &mut Vec<Option<u32>>, queue: &mut Queue, numbers: u32) -> Result<(), AllocError>
+    requires idle { IsIdle queue.old }
     requires few { length levels.old.items ≤ 4294967295 }
-    ensures len { length waits.new.items ≡ length levels.new.items }
+    requires waits { length levels.old.items ≤ length queue.old.levels.items }
+    ensures idle { IsIdle queue.new }
     ensures few { length levels.new.items ≤ 4294967295 }
+    ensures waits { length levels.new.items ≤ length queue.new.levels.items }
+    ensures heads { OnOk result (length levels.new.items < length queue.new.heads.items) }
+    ensures more_heads { length queue.old.heads.items ≤ length queue.new.heads.items }
     ensures grows { length levels.old.items ≤ length levels.new.items }
     ensures room { OnOk result (numbers ≤ length levels.new.items) }
     ensures refused { OnErr result (length levels.new.items ≡ length levels.old.items) }
     ensures levels { (n : ℕ) → slice_index_or levels.new.items n None ≡ slice_index_or levels.old.items n None }
-    ensures waits { (n : ℕ) → mark waits.new.items n ≡ mark waits.old.items n }
 {
-    let old = levels.len();
-    let room = old.max(numbers as usize);
-    levels.resize(room, None)?;
-    match waits.resize(room, false) {
-        Ok(()) => Ok(()),
-        Err(refused) => {
-            levels.truncate(old);
-            Err(refused)
-        }
-    }
+    let room = levels.len().max(numbers as usize);
+    queue.reserve(room)?;
+    lengthen(levels, room)?;
+    Ok(())
 }
 
 /// Drops the answers, and keeps the memory.
 pub fn clear<V: Drop>(kept: &mut Kept<V>)
     ensures len { length kept.new.levels.items ≡ length kept.old.levels.items }
     ensures levels { (n : ℕ) → slice_index_or kept.new.levels.items n None ≡ None }
-    ensures waits { kept.new.waits.items ≡ kept.old.waits.items }
+    ensures queue { kept.new.queue ≡ kept.old.queue }
 {
     clear_levels(&mut kept.levels);
     kept.values.clear();

@@ -5,6 +5,7 @@ mod building;
 mod depth;
 mod following;
 mod kept;
+mod queue;
 mod repairing;
 mod rule;
 

@@ -17,6 +17,7 @@ steps-preserved-in-Some g c =
     record {
       building = c.in-Some.ensures.building;
       len = c.in-Some.ensures.len ∙ c.steps.invariant.len;
+      queue = c.in-Some.ensures.queue ∙ c.steps.invariant.queue;
       grows = λ q h. subst (λ z. IsSome (get_or z q None)) (sym step.0) (c.steps.invariant.grows q h);
       live = pushed-live c.args.store.now.network c.steps.kept.levels.items c.steps.at c.in-Some.fanin c.steps.stack.items c.push.new.self.items c.in_ok-push-in-Some.ensures.items c.requires.stored.dag.acyclic c.requires.stored.dag.closed step.1;
       todo = ap (λ z. get_or z c.in-Some.fanin.0 None) step.0 ∙ step.2;
@@ -33,6 +34,7 @@ steps-preserved g c =
     record {
       building = c.in-None.ensures.building;
       len = c.in-None.ensures.len ∙ c.steps.invariant.len;
+      queue = c.in-None.ensures.queue ∙ c.steps.invariant.queue;
       grows = λ q h. some-kept c.steps.kept.levels.items c.visit.new.kept.levels.items c.steps.at.0 c.in-None.ensures.same c.in-None.ensures.step.0 q (c.steps.invariant.grows q h);
       live = popped-live c.args.store.now.network c.steps.kept.levels.items c.visit.new.kept.levels.items c.steps.at c.in-Some-pop.below c.pop.new.self.items c.steps.stack.items c.in-Some-pop.ensures.items c.steps.invariant.falls c.steps.invariant.rest c.in-None.ensures.same;
       todo = popped-none c.args.store.now.network c.steps.kept.levels.items c.visit.new.kept.levels.items c.steps.at c.in-Some-pop.below c.pop.new.self.items c.steps.stack.items c.in-Some-pop.ensures.items c.steps.invariant.falls c.steps.invariant.rest c.in-None.ensures.same;

@@ -6,8 +6,9 @@ use Rattle.lnet_views.proofs.building.complete.Given as goal
 
 abbrev pub invariant-steps : goal.invariant-steps
 invariant-steps g l = record {
-  building : IsBuilding g.R.Value.PartialEq.eq (g.R.Rule.first_of l.rule) (g.R.Rule.gives l.rule) l.store.network l.kept.values.items l.kept.levels.items l.kept.waits.items;
+  building : IsBuilding g.R.Value.PartialEq.eq (g.R.Rule.first_of l.rule) (g.R.Rule.gives l.rule) l.store.network l.kept.values.items l.kept.levels.items l.kept.queue.levels.items;
   len : length l.kept.levels.items ≡ length l.fn.kept.levels.items;
+  queue : l.kept.queue ≡ l.fn.kept.queue;
   grows : (q : ℕ) → IsSome (get_or l.fn.kept.levels.items q None) → IsSome (get_or l.kept.levels.items q None);
   live : IsLive l.store.network l.at.0;
   todo : get_or l.kept.levels.items l.at.0 None ≡ None;

@@ -8,6 +8,8 @@ mod kept;
 mod queue;
 mod repairing;
 mod rule;
+#[cfg(test)]
+mod tests;
 
 pub use depth::DepthView;
 pub use following::Follow;

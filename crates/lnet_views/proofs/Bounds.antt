@@ -1,5 +1,5 @@
 -- The engine's count is within the bound of each kind of view.
-use Rattle.std.proofs.Common.{◌≡◌, ◌≢◌, ℕ, ◌+◌, ◌*◌, ◌<◌, ◌≤◌, Bool, true, false, not, cond, eqb, List, [], ◌∷◌, length, map, IsSome, Option, None, Some, refl, sym, ap, subst, ◌∙◌, inl, inr, arith}
+use Rattle.std.proofs.Common.{◌≡◌, ℕ, ◌≤◌, Bool, true, false, not, eqb, List, map, Option, None, Some, refl, sym, ap, subst, ◌∙◌, inl, inr, arith}
 use Rattle.std.specs.Prelude.{◌&&◌, ◌||◌, is_some}
 use Rattle.std.specs.FinMap.{keys}
 use Rattle.std.proofs.lemmas.Bool.Decides.{eqb_tells}
@@ -7,17 +7,16 @@ use Rattle.lnet_gates.specs.declared.signal.Signal.{Signal}
 use Rattle.lnet_gates.specs.Gates.{GateValue}
 use Rattle.lnet_gates.specs.declared.signal.Node.{Node}
 use Rattle.lnet_model.specs.declared.event.Event.{Event}
-use Rattle.lnet_model.specs.declared.event.Event.TheVariants.{Added, Modified, Deleted}
+use Rattle.lnet_model.specs.declared.event.Event.TheVariants.{Modified}
 use Rattle.lnet_model.specs.declared.view_spec.ViewSpec.TheVariants.{Depth}
-use Rattle.lnet_model.specs.Networks.{Entry, Constant, Input, IsGate, NetworkValue, Lookup, entry_at, live_count, fanins_of, gate_in, gate_at, IsLive}
-use Rattle.lnet_model.specs.Along.{at_entry, once, along, over, In, fanin_nodes, nodes_read, IsClosed, Acyclic}
-use Rattle.lnet_model.specs.Levels.{greatest, level_step, level}
-use Rattle.lnet_model.specs.Fanouts.{fan, IsParent}
-use Rattle.lnet_model.specs.Changes.{with_entry, without, was}
-use Rattle.lnet_model.specs.Visits.{fanouts, fanouts_in, reads_of, visit_bound}
-use Rattle.lnet_views.specs.Repair.{put, SameBut, IsLawful, IsFromScratch, IsRepairing, IsNext, IsTaken, IsSettled, pair_step, pair_eq}
+use Rattle.lnet_model.specs.Networks.{Entry, IsGate, NetworkValue, entry_at, fanins_of}
+use Rattle.lnet_model.specs.Along.{at_entry, over, Acyclic}
+use Rattle.lnet_model.specs.Levels.{level}
+use Rattle.lnet_model.specs.Changes.{with_entry, was}
+use Rattle.lnet_model.specs.Visits.{fanouts_in, reads_of, visit_bound}
+use Rattle.lnet_views.specs.Repair.{IsLawful, pair_step, pair_eq}
 use Rattle.lnet_views.specs.Rules.{rule_step, made, is_other, rule_bound}
-use Rattle.lnet_views.specs.Keeping.{at_level, answer, mark, level_or, height, tallest, IsMarking, IsSound, IsRunning, spread, all_fanouts, IsKept, scratch}
+use Rattle.lnet_views.specs.Keeping.{scratch}
 use Rattle.lnet_model.proofs.Over.{over-once}
 use Rattle.lnet_model.proofs.Changes.{with_entry-here, with_entry-apart}
 use Rattle.lnet_views.proofs.Pair.{both, eqb-same, eqb-is, pair-lawful, pair-over}
@@ -63,8 +62,8 @@ module _ {V : Type 0} (eq : V → V → Bool) (first : ℕ → V) (gives : ℕ �
     | false ↦ λ e. (let dead : entry_at (with_entry N n (IsGate g)) x ≡ None = none-of _ e in elim (eqb_tells x n) as (λ _. false ≡ true) [
       | inl p ↦ (let z : true ≡ false = ap is_some (sym (ap (entry_at (with_entry N n (IsGate g))) p.1 ∙ with_entry-here N n (IsGate g))) ∙ e in cc)
       | inr p ↦ (let there = sym (with_entry-apart N n (IsGate g) x p.1) ∙ dead in
-        let same = dead-same N cn x there ∙ sym (dead-same (with_entry N n (IsGate g)) cm x dead) in
-        let z : false ≡ true = sym (ap not (subst (λ w. pair_eq eq (scratch first gives N x) w ≡ true) same ((pair-lawful eq (rule_step first gives) law).same (scratch first gives N x)))) ∙ d in cc)
+          let same = dead-same N cn x there ∙ sym (dead-same (with_entry N n (IsGate g)) cm x dead) in
+          let z : false ≡ true = sym (ap not (subst (λ w. pair_eq eq (scratch first gives N x) w ≡ true) same ((pair-lawful eq (rule_step first gives) law).same (scratch first gives N x)))) ∙ d in cc)
     ])
   ] refl
 
@@ -72,9 +71,9 @@ module _ {V : Type 0} (eq : V → V → Bool) (first : ℕ → V) (gives : ℕ �
   differs-other x d = elim (not (eqb (level (with_entry N n (IsGate g)) x) (level N x)) || not (eq (made first gives (with_entry N n (IsGate g)) x) (made first gives N x))) as (λ b. ((not (eqb (level (with_entry N n (IsGate g)) x) (level N x)) || not (eq (made first gives (with_entry N n (IsGate g)) x) (made first gives N x))) ≡ b) → b ≡ true) [
     | true ↦ λ e. refl
     | false ↦ λ e. (let p = or-nots _ _ e in
-      let both-same : pair_eq eq (made first gives N x, level N x) (made first gives (with_entry N n (IsGate g)) x, level (with_entry N n (IsGate g)) x) ≡ true = both _ _ (law.turned _ _ p.1) (eqb-same _ _ (sym (eqb-is _ _ p.0))) in
-      let same : pair_eq eq (scratch first gives N x) (scratch first gives (with_entry N n (IsGate g)) x) ≡ true = (λ i. pair_eq eq (pair-over N (rule_step first gives) (first 0) cn x i) (pair-over (with_entry N n (IsGate g)) (rule_step first gives) (first 0) cm x i)) ∙ both-same in
-      let z : false ≡ true = sym (ap not same) ∙ d in cc)
+        let both-same : pair_eq eq (made first gives N x, level N x) (made first gives (with_entry N n (IsGate g)) x, level (with_entry N n (IsGate g)) x) ≡ true = both _ _ (law.turned _ _ p.1) (eqb-same _ _ (sym (eqb-is _ _ p.0))) in
+        let same : pair_eq eq (scratch first gives N x) (scratch first gives (with_entry N n (IsGate g)) x) ≡ true = (λ i. pair_eq eq (pair-over N (rule_step first gives) (first 0) cn x i) (pair-over (with_entry N n (IsGate g)) (rule_step first gives) (first 0) cm x i)) ∙ both-same in
+        let z : false ≡ true = sym (ap not same) ∙ d in cc)
   ] refl
 
   pub repair-bound : (m : Node) → m.0 ≡ n → reads_of N (λ x. not (pair_eq eq (scratch first gives N x) (scratch first gives (with_entry N n (IsGate g)) x))) ≤ rule_bound eq first gives (Modified m g) N

@@ -1,9 +1,9 @@
 -- As many numbers are live as there are numbers below a bound, at most.
-use Rattle.std.proofs.Common.{◌≡◌, ℕ, suc, ◌+◌, ◌-◌, ◌<◌, ◌≤◌, ◌&&◌, List, [], ◌∷◌, length, IsSome, Some, refl, sym, subst, ◌∙◌, inl, inr, arith, T}
+use Rattle.std.proofs.Common.{ℕ, suc, ◌+◌, ◌<◌, ◌≤◌, List, [], ◌∷◌, length, IsSome, refl, sym, subst, ◌∙◌, inl, inr, arith, T}
 use Rattle.std.specs.Ordering.{nat_cmp}
 use Rattle.std.specs.FinMap.{entries, get-entries, entries_sorted, len-entries}
 use Rattle.std.specs.FinMap.Entries.{is_sorted}
-use Rattle.lnet_model.specs.Networks.{Entry, NetworkValue, entry_at, live_count, IsLive}
+use Rattle.lnet_model.specs.Networks.{Entry, NetworkValue, entry_at, live_count}
 use Rattle.lnet_model.specs.Levels.{level}
 use Rattle.lnet_model.specs.Dags.{AreBelow}
 use Rattle.lnet_model.proofs.Levels.{level-small}

@@ -3,14 +3,14 @@ use Rattle.std.proofs.Common.{◌≡◌, ℕ, ◌+◌, ◌≤◌, Bool, true, fa
 use Rattle.std.specs.Prelude.{option_map}
 use Rattle.lnet_gates.specs.declared.signal.Signal.{Signal}
 use Rattle.lnet_gates.specs.Gates.{GateValue}
-use Rattle.lnet_model.specs.Networks.{Entry, NetworkValue, entry_at, IsLive}
+use Rattle.lnet_model.specs.Networks.{Entry, NetworkValue, entry_at}
 use Rattle.lnet_model.specs.Levels.{level}
-use Rattle.lnet_model.specs.Answers.{Answer, Level, InStep, from_scratch, level_in}
+use Rattle.lnet_model.specs.Answers.{Level, InStep, from_scratch, level_in}
 use Rattle.lnet_model.specs.Visits.{visit_bound}
 use Rattle.lnet_model.specs.declared.event.Event.{Event}
 use Rattle.lnet_model.specs.declared.view_spec.ViewSpec.{ViewSpec}
 use Rattle.lnet_model.specs.declared.view_spec.ViewSpec.TheVariants.{Depth}
-use Rattle.lnet_views.specs.Rules.{made, IsInStep}
+use Rattle.lnet_views.specs.Rules.{made}
 use Rattle.lnet_views.specs.Follows.{IsFollowing, follow_bound}
 use Rattle.lnet_views.specs.DepthViews.{depth_spec, levels_in}
 use Rattle.lnet_views.proofs.Bounds.{depth-bound}

@@ -1,24 +1,23 @@
 -- Answers after a number was added or deleted.
-use Rattle.std.proofs.Common.{◌≡◌, ◌≢◌, ℕ, ◌+◌, ◌<◌, ◌≤◌, Bool, true, false, not, cond, eqb, List, [], ◌∷◌, map, IsSome, Option, None, Some, refl, sym, ap, subst, ◌∙◌, inl, inr, arith, get_or, set, get_or-set_same, get_or-set_other, length, length-set}
+use Rattle.std.proofs.Common.{◌≡◌, ◌≢◌, ℕ, ◌<◌, Bool, true, false, List, map, IsSome, Option, None, Some, refl, sym, ap, subst, ◌∙◌, inl, inr, arith, get_or, set, get_or-set_same, get_or-set_other, length, length-set}
 use Rattle.std.proofs.lemmas.Bool.Decides.{eqb_tells}
 use Rattle.lnet_gates.specs.declared.signal.Signal.{Signal}
 use Rattle.lnet_gates.specs.Gates.{GateValue}
-use Rattle.lnet_model.specs.Networks.{Entry, Constant, Input, IsGate, NetworkValue, Lookup, entry_at, live_count, fanins_of, gate_in, gate_at, IsLive}
-use Rattle.lnet_model.specs.Along.{at_entry, once, along, over, In, fanin_nodes, nodes_read, IsClosed, Acyclic}
-use Rattle.lnet_model.specs.Levels.{greatest, level_step, level}
-use Rattle.lnet_model.specs.Fanouts.{fan, IsParent}
-use Rattle.lnet_model.specs.Changes.{with_entry, without, was}
-use Rattle.lnet_model.specs.Visits.{fanouts, fanouts_in, reads_of}
-use Rattle.lnet_views.specs.Repair.{put, SameBut, IsLawful, IsFromScratch, IsRepairing, IsNext, IsTaken, IsSettled, pair_step, pair_eq}
-use Rattle.lnet_views.specs.Rules.{rule_step, made}
-use Rattle.lnet_views.specs.Keeping.{at_level, answer, mark, level_or, height, tallest, IsMarking, IsSound, IsRunning, spread, all_fanouts, IsKept, scratch}
+use Rattle.lnet_model.specs.Networks.{IsGate, NetworkValue, entry_at, fanins_of, gate_in, IsLive}
+use Rattle.lnet_model.specs.Along.{at_entry, once, In, fanin_nodes, IsClosed, Acyclic}
+use Rattle.lnet_model.specs.Levels.{level}
+use Rattle.lnet_model.specs.Fanouts.{IsParent}
+use Rattle.lnet_model.specs.Changes.{with_entry, without}
+use Rattle.lnet_views.specs.Repair.{SameBut, IsLawful, IsFromScratch, pair_step, pair_eq}
+use Rattle.lnet_views.specs.Rules.{rule_step}
+use Rattle.lnet_views.specs.Keeping.{at_level, answer, IsSound, IsKept}
 use Rattle.lnet_model.proofs.Along.{Step, once-same}
 use Rattle.lnet_model.proofs.Over.{once-entry}
 use Rattle.lnet_model.proofs.Changes.{with_entry-here, with_entry-apart, without-here, without-apart}
 use Rattle.lnet_model.proofs.Levels.{level-falls}
 use Rattle.lnet_views.proofs.Pair.{pair-lawful}
 use Rattle.lnet_views.proofs.Renewal.{renewed-here, renewed-apart}
-use Rattle.lnet_views.proofs.Repair.{is-same, once-like, over-like, like-over}
+use Rattle.lnet_views.proofs.Repair.{is-same, over-like, like-over}
 
 module _ {A : Type 0} (eq : A → A → Bool) (step : Step A) (none : A) (law : IsLawful eq step) (M N : NetworkValue) (n : ℕ) (cm : Acyclic M) (cn : Acyclic N) (same : SameBut M N n) (X Y : ℕ → A) (before : IsFromScratch eq M step none X) (each : (q : ℕ) → q ≢ n → Y q ≡ X q) where
   -- what doesn't read n stays

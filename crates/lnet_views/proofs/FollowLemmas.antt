@@ -1,5 +1,5 @@
 -- A follower that is attached.
-use Rattle.std.proofs.Common.{◌≡◌, ◌<◌, ◌≤◌, ℕ, length, arith, Bool, List, Option, None, Some, sym, subst, ◌∙◌}
+use Rattle.std.proofs.Common.{◌≡◌, ◌<◌, ◌≤◌, ℕ, length, arith, Bool, List, Option, Some, sym, subst, ◌∙◌}
 use Rattle.lnet_gates.specs.declared.signal.Signal.{Signal}
 use Rattle.lnet_gates.specs.Gates.{GateValue}
 use Rattle.lnet_model.specs.Networks.{NetworkValue}

@@ -1,26 +1,26 @@
 -- Answers that are made from scratch, a gate after its fanins.
-use Rattle.std.proofs.Common.{◌≡◌, ◌≢◌, ℕ, ◌+◌, ◌-◌, ◌*◌, ◌<◌, ◌≤◌, zero, suc, Bool, true, false, cond, eqb, List, [], ◌∷◌, ◌++◌, length, map, IsSome, Option, None, Some, refl, sym, ap, subst, ◌∙◌, inl, inr, arith, get_or, set, drop, get_or-set_same, get_or-set_other, length-set}
-use Rattle.std.specs.Prelude.{◌⊎◌, ⊤, is_some, sum_by, option_to_list}
+use Rattle.std.proofs.Common.{◌≡◌, ◌≢◌, ℕ, ◌+◌, ◌*◌, ◌<◌, ◌≤◌, zero, suc, Bool, true, false, cond, List, [], ◌∷◌, ◌++◌, length, IsSome, Option, None, Some, refl, sym, ap, subst, ◌∙◌, inl, inr, arith, get_or, set, drop, get_or-set_same, get_or-set_other, length-set}
+use Rattle.std.specs.Prelude.{◌⊎◌, is_some}
 use Rattle.std.proofs.lemmas.List.Sums.{sum_by-set}
 use Rattle.std.proofs.lemmas.Bool.Decides.{eqb_tells}
 use Rattle.lnet_gates.specs.declared.signal.Node.{Node}
 use Rattle.lnet_gates.specs.declared.signal.Signal.{Signal}
 use Rattle.lnet_gates.specs.Gates.{GateValue}
-use Rattle.lnet_model.specs.Networks.{Entry, Constant, Input, IsGate, NetworkValue, entry_at, live_count, fanins_of, gate_in, gate_at, IsLive}
-use Rattle.lnet_model.specs.Along.{at_entry, once, over, In, fanin_nodes, nodes_read, IsClosed, Acyclic}
+use Rattle.lnet_model.specs.Networks.{Entry, Constant, Input, IsGate, NetworkValue, entry_at, live_count, gate_in, IsLive}
+use Rattle.lnet_model.specs.Along.{once, In, fanin_nodes, nodes_read, IsClosed, Acyclic}
 use Rattle.lnet_model.specs.Levels.{level}
 use Rattle.lnet_model.specs.Fanouts.{IsParent}
 use Rattle.lnet_model.specs.Dags.{NUMBERS}
 use Rattle.lnet_model.proofs.Levels.{level-falls, level-small}
 use Rattle.lnet_model.proofs.Over.{over-once}
 use Rattle.lnet_views.specs.Repair.{IsLawful, pair_step, pair_eq}
-use Rattle.lnet_views.specs.Rules.{rule_step, made, IsInStep}
-use Rattle.lnet_views.specs.Keeping.{at_level, answer, mark, height, tallest, IsSound, IsKept, scratch, level_or, kept_at}
+use Rattle.lnet_views.specs.Rules.{rule_step, IsInStep}
+use Rattle.lnet_views.specs.Keeping.{at_level, answer, mark, height, IsSound, IsKept, scratch, level_or, kept_at}
 use Rattle.lnet_views.specs.Building.{undone, IsBuilding, bottom, Falls, AreTodo}
 use Rattle.lnet_views.proofs.Pair.{both, eqb-is, and-right, pair-lawful, pair-over}
 use Rattle.lnet_views.proofs.Steps.{dead-scratch, to-step}
 use Rattle.lnet_views.proofs.Repair.{once-like}
-use Rattle.lnet_views.proofs.Renewal.{answer-level, renewed-here, renewed-apart, fanin-live}
+use Rattle.lnet_views.proofs.Renewal.{answer-level, renewed-here, renewed-apart}
 
 -- ---- fanins in turn
 
@@ -79,9 +79,9 @@ module _ {V : Type 0} (eq : V → V → Bool) (first : ℕ → V) (gives : ℕ �
   building-low top low m = elim (get_or levels m None) as (λ o. (get_or levels m None ≡ o) → height levels m ≤ top) [
     | None ↦ λ e. (let z = ap level_or e in omega arith)
     | Some l ↦ λ e. (let right = B.done m (subst IsSome (sym e) refl) in
-      let is = sym (answer-level (first 0) values levels m) ∙ eqb-is _ _ (and-right (eq (answer (first 0) values levels m).0 (scratch first gives N m).0) _ right.1) ∙ ap (λ (p : V × ℕ). p.1) (pair-over N (rule_step first gives) (first 0) acyclic m) in
-      let h = low m in
-      omega arith)
+        let is = sym (answer-level (first 0) values levels m) ∙ eqb-is _ _ (and-right (eq (answer (first 0) values levels m).0 (scratch first gives N m).0) _ right.1) ∙ ap (λ (p : V × ℕ). p.1) (pair-over N (rule_step first gives) (first 0) acyclic m) in
+        let h = low m in
+        omega arith)
   ] refl
 
   pub building-small : live_count N ≤ NUMBERS → (m : ℕ) → height levels m ≤ NUMBERS
@@ -233,6 +233,6 @@ building-in-step eq first gives law N acyclic values levels waits B all = to-ste
     kept : IsKept eq first gives N values levels
     kept n = elim (entry_at N n) as (λ o. (entry_at N n ≡ o) → pair_eq eq (answer (first 0) values levels n) (scratch first gives N n) ≡ true) [
       | None ↦ λ d. (let is : answer (first 0) values levels n ≡ (first 0, 0) = ap (at_level (first 0) (get_or values n (first 0))) (S.dead n d) in
-        (λ i. pair_eq eq (is i) (dead-scratch first gives N acyclic n d i)) ∙ both _ _ (law.same (first 0)) refl)
+          (λ i. pair_eq eq (is i) (dead-scratch first gives N acyclic n d i)) ∙ both _ _ (law.same (first 0)) refl)
       | Some e ↦ λ d. (B.done n (all n (subst IsSome (sym d) refl))).1
     ] refl

@@ -1,19 +1,11 @@
 -- The marking of a node's parents.
-use Rattle.std.proofs.Common.{◌≡◌, ◌≢◌, ℕ, ◌+◌, ◌*◌, ◌<◌, ◌≤◌, Bool, true, false, cond, List, [], ◌∷◌, length, map, Option, None, refl, sym, ap, subst, ◌∙◌, inl, inr, arith, get_or, set, get_or-set_same, get_or-set_other, length-set}
-use Rattle.std.specs.Prelude.{◌⊎◌, sum_by}
+use Rattle.std.proofs.Common.{◌≡◌, ◌≢◌, ℕ, ◌<◌, true, false, List, [], ◌∷◌, length, map, Option, refl, sym, ap, subst, ◌∙◌, inl, inr, arith}
+use Rattle.std.specs.Prelude.{◌⊎◌}
 use Rattle.std.proofs.lemmas.Bool.Decides.{eqb_tells}
-use Rattle.std.proofs.lemmas.List.Sums.{sum_by-set}
-use Rattle.lnet_gates.specs.declared.signal.Signal.{Signal}
-use Rattle.lnet_gates.specs.Gates.{GateValue}
-use Rattle.lnet_model.specs.Networks.{Entry, Constant, Input, IsGate, NetworkValue, Lookup, entry_at, live_count, fanins_of, gate_in, gate_at, IsLive}
-use Rattle.lnet_model.specs.Along.{at_entry, once, along, over, In, fanin_nodes, nodes_read, IsClosed, Acyclic}
-use Rattle.lnet_model.specs.Levels.{greatest, level_step, level}
-use Rattle.lnet_model.specs.Fanouts.{fan, IsParent}
-use Rattle.lnet_model.specs.Changes.{with_entry, without, was}
-use Rattle.lnet_model.specs.Visits.{fanouts, fanouts_in, reads_of}
-use Rattle.lnet_views.specs.Repair.{put, SameBut, IsLawful, IsFromScratch, IsRepairing, IsNext, IsTaken, IsSettled, pair_step, pair_eq}
-use Rattle.lnet_views.specs.Rules.{rule_step, made}
-use Rattle.lnet_views.specs.Keeping.{at_level, answer, mark, level_or, height, tallest, IsMarking, IsSound, IsRunning, spread, all_fanouts, IsKept, scratch}
+use Rattle.lnet_model.specs.Networks.{NetworkValue, entry_at, IsLive}
+use Rattle.lnet_model.specs.Along.{In}
+use Rattle.lnet_model.specs.Fanouts.{IsParent}
+use Rattle.lnet_views.specs.Keeping.{mark, IsMarking}
 use Rattle.lnet_model.proofs.Along.{live_parent}
 
 pub marking-start : (N : NetworkValue) (n : ℕ) (waits : List (Option ℕ)) (rest : List (ℕ × ℕ)) → ((p : ℕ) → In p (map (λ r. r.0) rest) → IsParent N n p) → ((p : ℕ) → IsParent N n p → In p (map (λ r. r.0) rest)) → IsMarking N n waits waits rest

@@ -1,16 +1,12 @@
 -- A rule's value and the level together: their step, and that it is lawful where the rule is.
-use Rattle.std.proofs.Common.{◌≡◌, ℕ, ◌+◌, Bool, true, false, eqb, List, [], ◌∷◌, map, None, Some, refl, sym, ap, subst, ◌∙◌, inl, inr, arith}
+use Rattle.std.proofs.Common.{◌≡◌, ℕ, Bool, true, false, eqb, map, None, Some, refl, sym, ap, subst, ◌∙◌, inl, inr}
 use Rattle.std.specs.Prelude.{◌&&◌}
 use Rattle.std.proofs.lemmas.Bool.Decides.{eqb_tells}
 use Rattle.lnet_gates.specs.declared.signal.Signal.{Signal}
-use Rattle.lnet_gates.specs.Gates.{GateValue}
-use Rattle.lnet_model.specs.Networks.{Entry, Constant, Input, IsGate, NetworkValue, Lookup, entry_at, live_count, fanins_of, gate_in, gate_at, IsLive}
-use Rattle.lnet_model.specs.Along.{at_entry, once, along, over, In, fanin_nodes, nodes_read, IsClosed, Acyclic}
-use Rattle.lnet_model.specs.Levels.{greatest, level_step, level}
-use Rattle.lnet_model.specs.Fanouts.{fan, IsParent}
-use Rattle.lnet_model.specs.Changes.{with_entry, without, was}
-use Rattle.lnet_model.specs.Visits.{fanouts, fanouts_in, reads_of}
-use Rattle.lnet_views.specs.Repair.{put, SameBut, IsLawful, IsFromScratch, IsRepairing, IsNext, IsTaken, IsSettled, pair_step, pair_eq}
+use Rattle.lnet_model.specs.Networks.{NetworkValue, entry_at, fanins_of}
+use Rattle.lnet_model.specs.Along.{at_entry, once, over, Acyclic}
+use Rattle.lnet_model.specs.Levels.{level_step, level}
+use Rattle.lnet_views.specs.Repair.{IsLawful, pair_step, pair_eq}
 use Rattle.lnet_model.proofs.Along.{Step, pairs-same}
 use Rattle.lnet_model.proofs.Over.{over-once, over-unique}
 use Rattle.lnet_model.proofs.Values.{map-pairs}
@@ -40,10 +36,10 @@ module _ {V : Type 0} (eq : V → V → Bool) (step : Step V) (law : IsLawful eq
     turned = λ a b e. both _ _ (law.turned a.0 b.0 (and-left _ _ e)) (eqb-same b.1 a.1 (sym (eqb-is a.1 b.1 (and-right _ _ e))));
     joined = λ a b c e f. both _ _ (law.joined a.0 b.0 c.0 (and-left _ _ e) (and-left _ _ f)) (eqb-same a.1 c.1 (eqb-is a.1 b.1 (and-right _ _ e) ∙ eqb-is b.1 c.1 (and-right _ _ f)));
     steps = λ n e X Y h. both _ _
-      (subst (λ z. eq (step n e z) (step n e (map {B = Signal × V} (λ r. (r.0, r.1.0)) (map {B = Signal × (V × ℕ)} (λ s. (s, Y s.node.0)) (fanins_of e)))) ≡ true) (sym (map-pairs X (λ r. (r.0, r.1.0)) (fanins_of e)))
+        (subst (λ z. eq (step n e z) (step n e (map {B = Signal × V} (λ r. (r.0, r.1.0)) (map {B = Signal × (V × ℕ)} (λ s. (s, Y s.node.0)) (fanins_of e)))) ≡ true) (sym (map-pairs X (λ r. (r.0, r.1.0)) (fanins_of e)))
         (subst (λ z. eq (step n e (map (λ s. (s, (X s.node.0).0)) (fanins_of e))) (step n e z) ≡ true) (sym (map-pairs Y (λ r. (r.0, r.1.0)) (fanins_of e)))
-          (law.steps n e (λ m. (X m).0) (λ m. (Y m).0) (λ m i. and-left _ _ (h m i)))))
-      (eqb-same _ _ (ap (level_step n e) (map-pairs X (λ r. (r.0, r.1.1)) (fanins_of e) ∙ pairs-same (fanins_of e) (λ m. (X m).1) (λ m. (Y m).1) (λ m i. eqb-is _ _ (and-right _ _ (h m i))) ∙ sym (map-pairs Y (λ r. (r.0, r.1.1)) (fanins_of e)))));
+        (law.steps n e (λ m. (X m).0) (λ m. (Y m).0) (λ m i. and-left _ _ (h m i)))))
+        (eqb-same _ _ (ap (level_step n e) (map-pairs X (λ r. (r.0, r.1.1)) (fanins_of e) ∙ pairs-same (fanins_of e) (λ m. (X m).1) (λ m. (Y m).1) (λ m i. eqb-is _ _ (and-right _ _ (h m i))) ∙ sym (map-pairs Y (λ r. (r.0, r.1.1)) (fanins_of e)))));
   }
 
 -- the two halves of what the pair's recursion gives

@@ -1,18 +1,16 @@
 -- A gate's answer made anew.
-use Rattle.std.proofs.Common.{◌≡◌, ◌≢◌, ℕ, ◌+◌, ◌<◌, ◌≤◌, max, Bool, true, false, List, [], ◌∷◌, length, map, IsSome, Option, None, Some, refl, sym, ap, subst, ◌∙◌, inl, inr, arith, get_or, set, get_or-set_same, get_or-set_other, length-set}
+use Rattle.std.proofs.Common.{◌≡◌, ◌≢◌, ℕ, ◌+◌, ◌<◌, max, Bool, true, false, List, [], ◌∷◌, length, map, IsSome, Option, None, Some, refl, sym, ap, subst, ◌∙◌, inl, inr, arith, get_or, set, get_or-set_same, get_or-set_other, length-set}
 use Rattle.std.specs.Prelude.{is_some}
 use Rattle.std.proofs.lemmas.Bool.Decides.{eqb_tells}
 use Rattle.lnet_gates.specs.declared.signal.Signal.{Signal}
 use Rattle.lnet_gates.specs.Gates.{GateValue}
-use Rattle.lnet_model.specs.Networks.{Entry, Constant, Input, IsGate, NetworkValue, Lookup, entry_at, live_count, fanins_of, gate_in, gate_at, IsLive}
-use Rattle.lnet_model.specs.Along.{at_entry, once, along, over, In, fanin_nodes, nodes_read, IsClosed, Acyclic}
-use Rattle.lnet_model.specs.Levels.{greatest, level_step, level}
-use Rattle.lnet_model.specs.Fanouts.{fan, IsParent}
-use Rattle.lnet_model.specs.Changes.{with_entry, without, was}
-use Rattle.lnet_model.specs.Visits.{fanouts, fanouts_in, reads_of}
-use Rattle.lnet_views.specs.Repair.{put, SameBut, IsLawful, IsFromScratch, IsRepairing, IsNext, IsTaken, IsSettled, pair_step, pair_eq}
-use Rattle.lnet_views.specs.Rules.{rule_step, made}
-use Rattle.lnet_views.specs.Keeping.{at_level, answer, mark, level_or, height, tallest, IsMarking, IsSound, IsRunning, spread, all_fanouts, IsKept, scratch}
+use Rattle.lnet_model.specs.Networks.{Entry, Constant, Input, IsGate, NetworkValue, entry_at, fanins_of, gate_in, IsLive}
+use Rattle.lnet_model.specs.Along.{at_entry, once, In, fanin_nodes, nodes_read, IsClosed, Acyclic}
+use Rattle.lnet_model.specs.Levels.{greatest}
+use Rattle.lnet_model.specs.Fanouts.{IsParent}
+use Rattle.lnet_views.specs.Repair.{IsSettled, pair_step, pair_eq}
+use Rattle.lnet_views.specs.Rules.{rule_step}
+use Rattle.lnet_views.specs.Keeping.{at_level, answer, mark, level_or, height, tallest, IsSound}
 use Rattle.lnet_model.proofs.Along.{Step, pairs-same}
 use Rattle.lnet_model.proofs.Values.{map-pairs}
 use Rattle.lnet_model.proofs.Levels.{level-falls}

@@ -1,16 +1,13 @@
 -- The repair's rule is kept by each step, and its end is the answers from scratch.
-use Rattle.std.proofs.Common.{◌≡◌, ◌≢◌, ℕ, ◌+◌, ◌<◌, ◌≤◌, Bool, true, false, cond, eqb, List, [], ◌∷◌, map, None, Some, refl, sym, ap, subst, ◌∙◌, inl, inr, arith}
+use Rattle.std.proofs.Common.{◌≡◌, ◌≢◌, ℕ, ◌<◌, ◌≤◌, Bool, true, false, cond, eqb, map, None, Some, refl, sym, ap, subst, ◌∙◌, inl, inr, arith}
 use Rattle.std.proofs.lemmas.Bool.Decides.{eqb_tells}
 use Rattle.std.specs.Prelude.{◌⊎◌}
 use Rattle.lnet_gates.specs.declared.signal.Signal.{Signal}
-use Rattle.lnet_gates.specs.Gates.{GateValue}
-use Rattle.lnet_model.specs.Networks.{Entry, Constant, Input, IsGate, NetworkValue, Lookup, entry_at, live_count, fanins_of, gate_in, gate_at, IsLive}
-use Rattle.lnet_model.specs.Along.{at_entry, once, along, over, In, fanin_nodes, nodes_read, IsClosed, Acyclic}
-use Rattle.lnet_model.specs.Levels.{greatest, level_step, level}
-use Rattle.lnet_model.specs.Fanouts.{fan, IsParent}
-use Rattle.lnet_model.specs.Changes.{with_entry, without, was}
-use Rattle.lnet_model.specs.Visits.{fanouts, fanouts_in, reads_of}
-use Rattle.lnet_views.specs.Repair.{put, SameBut, IsLawful, IsFromScratch, IsRepairing, IsNext, IsTaken, IsSettled, pair_step, pair_eq}
+use Rattle.lnet_model.specs.Networks.{NetworkValue, Lookup, entry_at, fanins_of}
+use Rattle.lnet_model.specs.Along.{at_entry, once, over, In, fanin_nodes, Acyclic}
+use Rattle.lnet_model.specs.Levels.{level}
+use Rattle.lnet_model.specs.Fanouts.{IsParent}
+use Rattle.lnet_views.specs.Repair.{put, SameBut, IsLawful, IsFromScratch, IsRepairing, IsNext, IsTaken, IsSettled}
 use Rattle.lnet_model.proofs.Along.{Step, once-same}
 use Rattle.lnet_model.proofs.Over.{over-once, along_induction, once-entry}
 use Rattle.lnet_model.proofs.Levels.{level-falls}
@@ -55,7 +52,7 @@ module _ {A : Type 0} (eq : A → A → Bool) (step : Step A) (none : A) (law : 
   pub repair-start : (M N : NetworkValue) (k : ℕ) (height : ℕ → ℕ) (old : ℕ → A) (W : ℕ → Bool) → Acyclic M → SameBut M N k → IsFromScratch eq M step none old → ((n : ℕ) → W n ≡ true → n ≡ k) → W k ≡ true → IsRepairing eq N k step none height old old W
   repair-start M N k height old W acyclic same before one at = record {
     settled = λ n idle. let ne : n ≢ k = λ e. (let t : true ≡ false = sym at ∙ ap W (sym e) ∙ idle in cc) in
-      subst (λ z. eq (old n) z ≡ true) (once-entry (entry_at M) (entry_at N) step none old n (same n ne)) (like-over M old acyclic before n);
+        subst (λ z. eq (old n) z ≡ true) (once-entry (entry_at M) (entry_at N) step none old n (same n ne)) (like-over M old acyclic before n);
     fresh = λ n w. refl;
     later = λ x n w l. refl;
     above = λ n w. let e = ap (level N) (one n w) in omega arith;
@@ -100,9 +97,9 @@ module _ {A : Type 0} (eq : A → A → Bool) (step : Step A) (none : A) (law : 
       settles q idle =
           elim (eqb_tells q n) as (λ _. eq (put V n v q) (once (entry_at N) step none (put V n v) q) ≡ true) [
             | inl p ↦ subst (λ z. eq z (once (entry_at N) step none (put V n v) q) ≡ true) (sym (put-here V n v q p.1))
-              (subst (λ z. eq v z ≡ true) (ap (once (entry_at N) step none V) (sym p.1) ∙ sym (once-same (entry_at N) step none (put V n v) V q (λ m i. put-apart V n v m (λ e. let f = level-falls N cn q m i in let g = ap (level N) (e ∙ sym p.1) in omega arith)))) is)
+                (subst (λ z. eq v z ≡ true) (ap (once (entry_at N) step none V) (sym p.1) ∙ sym (once-same (entry_at N) step none (put V n v) V q (λ m i. put-apart V n v m (λ e. let f = level-falls N cn q m i in let g = ap (level N) (e ∙ sym p.1) in omega arith)))) is)
             | inr p ↦ subst (λ z. eq z (once (entry_at N) step none (put V n v) q) ≡ true) (sym (put-apart V n v q p.1))
-              (law.joined (V q) (once (entry_at N) step none V q) (once (entry_at N) step none (put V n v) q) (I.settled q (was-idle q p.1 idle)) (once-like (entry_at N) V (put V n v) q (same-read q idle)))
+                (law.joined (V q) (once (entry_at N) step none V q) (once (entry_at N) step none (put V n v) q) (I.settled q (was-idle q p.1 idle)) (once-like (entry_at N) V (put V n v) q (same-read q idle)))
           ]
 
       pub repair-step : IsRepairing eq N k step none (level M) old (put V n v) W2

@@ -1,21 +1,19 @@
 -- The repair as it runs.
-use Rattle.std.proofs.Common.{◌≡◌, ◌≢◌, ℕ, ◌+◌, ◌*◌, ◌-◌, ◌<◌, ◌≤◌, zero, suc, Bool, true, false, not, eqb, cond, List, [], ◌∷◌, length, map, IsSome, Option, None, Some, refl, sym, ap, subst, ◌∙◌, inl, inr, arith, get_or, set, get_or-set_same, get_or-set_other, length-set}
-use Rattle.std.specs.Prelude.{◌⊎◌, is_some}
+use Rattle.std.proofs.Common.{◌≡◌, ◌≢◌, ℕ, ◌+◌, ◌*◌, ◌<◌, ◌≤◌, Bool, true, false, not, eqb, cond, List, length, map, IsSome, Option, None, Some, refl, sym, ap, subst, ◌∙◌, inl, inr, arith, set, get_or-set_same, get_or-set_other, length-set}
+use Rattle.std.specs.Prelude.{is_some}
 use Rattle.std.specs.FinMap.{keys}
 use Rattle.std.specs.Cmp.{IsEquivalence}
-use Rattle.std.proofs.lemmas.List.Sums.{sum_by-set, sum_by-cons}
 use Rattle.std.proofs.lemmas.Bool.Decides.{eqb_tells}
 use Rattle.lnet_gates.specs.declared.signal.Signal.{Signal}
 use Rattle.lnet_gates.specs.Gates.{GateValue}
-use Rattle.lnet_model.specs.Networks.{Entry, Constant, Input, IsGate, NetworkValue, Lookup, entry_at, live_count, fanins_of, gate_in, gate_at, IsLive}
-use Rattle.lnet_model.specs.Along.{at_entry, once, along, over, In, fanin_nodes, nodes_read, IsClosed, Acyclic}
-use Rattle.lnet_model.specs.Levels.{greatest, level_step, level}
+use Rattle.lnet_model.specs.Networks.{Entry, Constant, Input, IsGate, NetworkValue, entry_at, fanins_of, gate_in}
+use Rattle.lnet_model.specs.Along.{In, fanin_nodes, Acyclic}
+use Rattle.lnet_model.specs.Levels.{level}
 use Rattle.lnet_model.specs.Fanouts.{fan, IsParent}
-use Rattle.lnet_model.specs.Changes.{with_entry, without, was}
-use Rattle.lnet_model.specs.Visits.{fanouts, fanouts_in, reads_of}
-use Rattle.lnet_views.specs.Repair.{put, SameBut, IsLawful, IsFromScratch, IsRepairing, IsNext, IsTaken, IsSettled, pair_step, pair_eq}
-use Rattle.lnet_views.specs.Rules.{rule_step, made}
-use Rattle.lnet_views.specs.Keeping.{at_level, answer, mark, level_or, height, tallest, IsMarking, IsSound, IsRunning, spread, all_fanouts, IsKept, scratch}
+use Rattle.lnet_model.specs.Visits.{fanouts, fanouts_in}
+use Rattle.lnet_views.specs.Repair.{put, SameBut, IsLawful, IsNext, IsSettled, pair_step, pair_eq}
+use Rattle.lnet_views.specs.Rules.{rule_step}
+use Rattle.lnet_views.specs.Keeping.{answer, mark, height, IsSound, IsRunning, spread, all_fanouts, IsKept, scratch}
 use Rattle.lnet_views.proofs.Pair.{pair-lawful, pair-over, eqb-is, and-right}
 use Rattle.lnet_views.proofs.Repair.{repair-start, repair-end, repair-settled, taken-final, put-of, parent-old}
 use Rattle.lnet_views.proofs.Count.{differing-grow, differing-more, fanouts-grow, live-key}
@@ -75,9 +73,9 @@ module _ {V : Type 0} (eq : V → V → Bool) (first : ℕ → V) (gives : ℕ �
         let up = parent-old (pair_eq eq) (pair_step (rule_step first gives)) (first 0, 0) (pair-lawful eq (rule_step first gives) law) M N k (answer (first 0) values0 levels0) (answer (first 0) values levels) (mark waits) cm cn same R.repairing n by-old p i in
         let here = old-level n next.waits in
         let there : height levels p ≡ level M p = sym (answer-level (first 0) values levels p)
-          ∙ ap (λ (q : V × ℕ). q.1) (R.repairing.later p n next.waits up)
-          ∙ pair-level eq (answer (first 0) values0 levels0 p) (scratch first gives M p) (before p)
-          ∙ ap (λ (q : V × ℕ). q.1) (pair-over M (rule_step first gives) (first 0) cm p) in
+        ∙ ap (λ (q : V × ℕ). q.1) (R.repairing.later p n next.waits up)
+        ∙ pair-level eq (answer (first 0) values0 levels0 p) (scratch first gives M p) (before p)
+        ∙ ap (λ (q : V × ℕ). q.1) (pair-over M (rule_step first gives) (first 0) cm p) in
         omega arith
 
     pub run-end : ((m : ℕ) → mark waits m ≡ false) → IsKept eq first gives N values levels

@@ -1,21 +1,20 @@
 -- What is kept as lists is in step where it is kept for a network, and the other way round.
-use Rattle.std.proofs.Common.{◌≡◌, ◌≢◌, ℕ, zero, suc, ◌+◌, ◌<◌, ◌≤◌, Bool, true, false, eqb, List, [], ◌∷◌, length, map, IsSome, Option, None, Some, refl, sym, ap, subst, ◌∙◌, inl, inr, arith, get_or, take}
-use Rattle.std.specs.Prelude.{◌&&◌, slice_get, min, option_map}
+use Rattle.std.proofs.Common.{◌≡◌, ℕ, zero, suc, ◌<◌, ◌≤◌, Bool, true, false, List, [], ◌∷◌, length, map, IsSome, Option, None, Some, refl, sym, ap, subst, ◌∙◌, inl, inr, arith, get_or, take}
+use Rattle.std.specs.Prelude.{slice_get, option_map}
 use Rattle.std.proofs.lemmas.Bool.{cases_lt}
 use Rattle.std.proofs.lemmas.List.{get_or-take, get_or_past, length-take}
 use Rattle.lnet_gates.specs.declared.signal.Signal.{Signal}
 use Rattle.lnet_gates.specs.Gates.{GateValue}
-use Rattle.lnet_model.specs.Networks.{Entry, NetworkValue, entry_at, fanins_of, IsLive, live_count}
+use Rattle.lnet_model.specs.Networks.{NetworkValue, entry_at, fanins_of, IsLive}
 use Rattle.lnet_model.specs.Along.{at_entry, over, Acyclic}
 use Rattle.lnet_model.specs.Levels.{level}
-use Rattle.lnet_model.specs.Dags.{AreBelow, NUMBERS}
+use Rattle.lnet_model.specs.Dags.{AreBelow}
 use Rattle.lnet_model.proofs.Over.{over-once}
-use Rattle.lnet_model.proofs.Levels.{level-small}
 use Rattle.lnet_views.proofs.Renewal.{answer-level}
 use Rattle.lnet_views.specs.Repair.{IsLawful, pair_step, pair_eq}
 use Rattle.lnet_views.specs.Rules.{rule_step, made, IsInStep}
 use Rattle.lnet_views.specs.Keeping.{at_level, answer, IsSound, IsKept, scratch, height, paired, kept_at}
-use Rattle.lnet_views.proofs.Pair.{both, eqb-same, eqb-is, and-left, and-right, pair-lawful, pair-over}
+use Rattle.lnet_views.proofs.Pair.{both, eqb-same, eqb-is, and-left, and-right, pair-over}
 
 pub dead-scratch : {V : Type 0} (first : ℕ → V) (gives : ℕ → GateValue → List (Signal × V) → V) (P : NetworkValue) → Acyclic P → (x : ℕ) → entry_at P x ≡ None → scratch first gives P x ≡ (first 0, 0)
 dead-scratch {V} first gives P acyclic x dead = over-once P (pair_step (rule_step first gives)) (first 0, 0) acyclic x ∙ ap (at_entry (first 0, 0) (λ e. pair_step (rule_step first gives) x e (map {B = Signal × (V × ℕ)} (λ s. (s, over P (pair_step (rule_step first gives)) (first 0, 0) s.node.0)) (fanins_of e)))) dead
@@ -57,10 +56,10 @@ module _ {V : Type 0} (eq : V → V → Bool) (first : ℕ → V) (gives : ℕ �
   unfolding kept_at
   to-step waits kept S = record {
     live = λ n live.
-      let l = some-of (get_or levels n None) (S.known n live) in
-      let is : answer (first 0) values levels n ≡ (get_or values n (first 0), l.0) = ap (at_level (first 0) (get_or values n (first 0))) l.1 in
-      let same : pair_eq eq (get_or values n (first 0), l.0) (made first gives N n, level N n) ≡ true = subst (λ z. pair_eq eq z (made first gives N n, level N n) ≡ true) is (subst (λ z. pair_eq eq (answer (first 0) values levels n) z ≡ true) (pair-over N (rule_step first gives) (first 0) acyclic n) (kept n)) in
-      ((get_or values n (first 0), l.0), (λ i. paired (some-inside values n (first 0) (S.room n live) i) (l.1 i)), and-left _ _ same, eqb-is _ _ (and-right _ _ same));
+        let l = some-of (get_or levels n None) (S.known n live) in
+        let is : answer (first 0) values levels n ≡ (get_or values n (first 0), l.0) = ap (at_level (first 0) (get_or values n (first 0))) l.1 in
+        let same : pair_eq eq (get_or values n (first 0), l.0) (made first gives N n, level N n) ≡ true = subst (λ z. pair_eq eq z (made first gives N n, level N n) ≡ true) is (subst (λ z. pair_eq eq (answer (first 0) values levels n) z ≡ true) (pair-over N (rule_step first gives) (first 0) acyclic n) (kept n)) in
+        ((get_or values n (first 0), l.0), (λ i. paired (some-inside values n (first 0) (S.room n live) i) (l.1 i)), and-left _ _ same, eqb-is _ _ (and-right _ _ same));
     dead = λ n d. ap (paired (slice_get values n)) (S.dead n d) ∙ elim (slice_get values n) as (λ o. paired o None ≡ None) [ None ↦ refl | Some v ↦ refl ];
   }
 
@@ -76,10 +75,10 @@ module _ {V : Type 0} (eq : V → V → Bool) (first : ℕ → V) (gives : ℕ �
     pub from-kept : IsKept eq first gives N values levels
     from-kept n = elim (entry_at N n) as (λ o. (entry_at N n ≡ o) → pair_eq eq (answer (first 0) values levels n) (scratch first gives N n) ≡ true) [
       | None ↦ λ d. (let is : answer (first 0) values levels n ≡ (first 0, 0) = ap (at_level (first 0) (get_or values n (first 0))) (dead-level n d) in
-        (λ i. pair_eq eq (is i) (dead-scratch first gives N acyclic n d i)) ∙ both _ _ (law.same (first 0)) refl)
+          (λ i. pair_eq eq (is i) (dead-scratch first gives N acyclic n d i)) ∙ both _ _ (law.same (first 0)) refl)
       | Some e ↦ λ d. (let k = live-answer n (subst IsSome (sym d) refl) in
-        let is : answer (first 0) values levels n ≡ k.0 = (λ i. at_level (first 0) (k.1 i) (k.2 i)) in
-        (λ i. pair_eq eq (is i) (pair-over N (rule_step first gives) (first 0) acyclic n i)) ∙ both _ _ k.3 (eqb-same _ _ k.4))
+          let is : answer (first 0) values levels n ≡ k.0 = (λ i. at_level (first 0) (k.1 i) (k.2 i)) in
+          (λ i. pair_eq eq (is i) (pair-over N (rule_step first gives) (first 0) acyclic n i)) ∙ both _ _ k.3 (eqb-same _ _ k.4))
     ] refl
 
     pub from-sound : (waits : List (Option ℕ)) → length values ≤ length waits → AreBelow N (length values) → IsSound N values levels waits

@@ -1,6 +1,6 @@
 -- How many numbers wait.
-use Rattle.std.proofs.Common.{◌≡◌, ℕ, ◌+◌, ◌<◌, ◌≤◌, zero, suc, List, [], ◌∷◌, length, cond, Option, None, Some, refl, sym, ap, ◌∙◌, arith, set}
-use Rattle.std.specs.Prelude.{is_some, sum_by}
+use Rattle.std.proofs.Common.{◌≡◌, ℕ, ◌+◌, ◌<◌, ◌≤◌, zero, suc, List, [], ◌∷◌, length, cond, Option, None, Some, refl, ap, ◌∙◌, arith, set}
+use Rattle.std.specs.Prelude.{is_some}
 use Rattle.std.proofs.lemmas.List.Sums.{sum_by-set, sum_by-cons}
 use Rattle.lnet_views.specs.Chains.{at, waiting}
 

@@ -1,9 +1,9 @@
 -- Answers while they are made from scratch.
-use Rattle.std.specs.Prelude.{◌≡◌, ◌⊎◌, ℕ, ◌<◌, ◌≤◌, ⊤, Bool, true, false, cond, List, [], ◌∷◌, length, map, sum_by, slice_index_or, is_some, IsSome, Option, None, Some}
+use Rattle.std.specs.Prelude.{◌≡◌, ℕ, ◌<◌, ◌≤◌, ⊤, Bool, true, false, cond, List, [], ◌∷◌, length, sum_by, slice_index_or, is_some, IsSome, Option, None}
 use Rattle.lnet_gates.specs.declared.signal.Node.{Node}
 use Rattle.lnet_gates.specs.declared.signal.Signal.{Signal}
 use Rattle.lnet_gates.specs.Gates.{GateValue}
-use Rattle.lnet_model.specs.Networks.{NetworkValue, IsLive, entry_at}
+use Rattle.lnet_model.specs.Networks.{NetworkValue, IsLive}
 use Rattle.lnet_model.specs.Levels.{level}
 use Rattle.lnet_views.specs.Repair.{pair_eq}
 use Rattle.lnet_views.specs.Keeping.{answer, mark, scratch}

@@ -1,5 +1,5 @@
 -- Numbers that wait, in chains by level. Source: bucket queues, as in the topological orders of event-driven simulation.
-use Rattle.std.specs.Prelude.{◌≡◌, ◌≢◌, ◌⊎◌, ⊤, ℕ, ◌<◌, ◌≤◌, List, [], ◌∷◌, length, slice_index_or, sum_by, cond, is_some, Option, None, Some}
+use Rattle.std.specs.Prelude.{◌≡◌, ◌⊎◌, ⊤, ℕ, ◌<◌, ◌≤◌, List, [], ◌∷◌, length, slice_index_or, sum_by, cond, is_some, Option, None, Some}
 use Rattle.lnet_views.specs.declared.queue.Queue.{Queue}
 
 abbrev pub at : List (Option ℕ) → ℕ → Option ℕ

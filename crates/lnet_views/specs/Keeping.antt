@@ -1,8 +1,8 @@
 -- How answers are kept: a list of values, a list of levels where a number is live, and marks of those that wait.
-use Rattle.std.specs.Prelude.{◌≡◌, max, ◌⊎◌, ℕ, ◌+◌, ◌*◌, ◌<◌, ◌≤◌, Bool, true, false, not, cond, List, [], ◌∷◌, map, length, slice_index_or, slice_get, is_some, IsSome, Option, None, Some}
+use Rattle.std.specs.Prelude.{◌≡◌, max, ◌⊎◌, ℕ, ◌<◌, ◌≤◌, Bool, true, false, not, List, [], ◌∷◌, map, length, slice_index_or, slice_get, is_some, IsSome, Option, None, Some}
 use Rattle.lnet_gates.specs.declared.signal.Signal.{Signal}
 use Rattle.lnet_gates.specs.Gates.{GateValue}
-use Rattle.lnet_model.specs.Networks.{Entry, NetworkValue, entry_at, gate_in, IsLive}
+use Rattle.lnet_model.specs.Networks.{NetworkValue, entry_at, gate_in, IsLive}
 use Rattle.lnet_model.specs.Along.{over, In}
 use Rattle.lnet_model.specs.Levels.{level}
 use Rattle.lnet_model.specs.Fanouts.{IsParent}

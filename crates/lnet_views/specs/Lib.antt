@@ -5,3 +5,4 @@ pub mod Building
 pub mod Follows
 pub mod DepthViews
 pub mod Chains
+pub mod Leftmost

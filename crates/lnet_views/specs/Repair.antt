@@ -1,6 +1,6 @@
 -- The repair of kept answers after an event at one number: in the order of the levels before the event.
 -- Source: event-driven evaluation of levelised circuits, as in selective-trace simulation.
-use Rattle.std.specs.Prelude.{◌≡◌, ◌≢◌, ℕ, ◌+◌, ◌*◌, ◌<◌, ◌≤◌, Bool, true, false, cond, ◌&&◌, List, map, eqb}
+use Rattle.std.specs.Prelude.{◌≡◌, ◌≢◌, ℕ, ◌<◌, ◌≤◌, Bool, true, false, cond, ◌&&◌, List, map, eqb}
 use Rattle.lnet_gates.specs.declared.signal.Signal.{Signal}
 use Rattle.lnet_model.specs.Networks.{Entry, NetworkValue, entry_at, fanins_of}
 use Rattle.lnet_model.specs.Along.{once, over, In, nodes_read}

@@ -71,7 +71,13 @@ fn visit<R: Rule>(kept: &mut Kept<R::Value>, rule: &R, n: Node, store: &Store) -
 }
 
 /// Computes the answer at a live number that has none, and before it those that it needs.
-fn complete<R: Rule>(kept: &mut Kept<R::Value>, rule: &R, n: Node, store: &Store, stack: &mut Vec<Node>) -> Result<(), AllocError>
+fn complete<R: Rule>(
+    kept: &mut Kept<R::Value>,
+    rule: &R,
+    n: Node,
+    store: &Store,
+    stack: &mut Vec<Node>,
+) -> Result<(), AllocError>
     requires stored { IsStored store.now.network }
     requires small { live_count store.now.network ≤ NUMBERS }
     requires live { IsLive store.now.network n.0 }
@@ -101,7 +107,11 @@ fn complete<R: Rule>(kept: &mut Kept<R::Value>, rule: &R, n: Node, store: &Store
 }
 
 /// Computes the answer at each live number.
-fn complete_all<R: Rule>(kept: &mut Kept<R::Value>, rule: &R, store: &Store) -> Result<(), AllocError>
+fn complete_all<R: Rule>(
+    kept: &mut Kept<R::Value>,
+    rule: &R,
+    store: &Store,
+) -> Result<(), AllocError>
     requires room { numbers_of store.now.network ≤ length kept.old.values.items }
     requires building { IsBuilding R.Value.eq (R.first_of rule.now) (R.gives rule.now) store.now.network kept.old.values.items kept.old.levels.items kept.old.queue.levels.items }
     ensures building { IsBuilding R.Value.eq (R.first_of rule.now) (R.gives rule.now) store.now.network kept.new.values.items kept.new.levels.items kept.new.queue.levels.items }

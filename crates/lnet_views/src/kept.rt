@@ -58,7 +58,13 @@ pub fn level_above(levels: &Vec<Option<u32>>, gate: &Gate) -> u32
 }
 
 /// Whether this value and level are those that are kept for the number.
-pub fn is_same<V: Eq>(values: &Vec<V>, levels: &Vec<Option<u32>>, n: Node, value: &V, level: u32) -> bool
+pub fn is_same<V: Eq>(
+    values: &Vec<V>,
+    levels: &Vec<Option<u32>>,
+    n: Node,
+    value: &V,
+    level: u32,
+) -> bool
     requires values { n.0 < length values.now.items }
     requires levels { length levels.now.items ≡ length values.now.items }
     requires known { IsSome (slice_index_or levels.now.items n.0 None) }
@@ -82,7 +88,11 @@ pub fn place<V: Drop>(kept: &mut Kept<V>, n: Node, value: V, level: u32)
 }
 
 /// Makes room for at least so many numbers, which have no level and don't wait.
-pub fn make_room(levels: &mut Vec<Option<u32>>, queue: &mut Queue, numbers: u32) -> Result<(), AllocError>
+pub fn make_room(
+    levels: &mut Vec<Option<u32>>,
+    queue: &mut Queue,
+    numbers: u32,
+) -> Result<(), AllocError>
     requires idle { IsIdle queue.old }
     requires few { length levels.old.items ≤ 4294967295 }
     requires waits { length levels.old.items ≤ length queue.old.levels.items }

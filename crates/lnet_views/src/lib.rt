@@ -5,6 +5,8 @@ mod building;
 mod depth;
 mod following;
 mod kept;
+#[cfg(test)]
+mod leftmost_tests;
 mod queue;
 mod repairing;
 mod rule;

@@ -45,7 +45,13 @@ fn let_wait(levels: &Vec<Option<u32>>, queue: &mut Queue, n: Node)
 }
 
 /// Lets the parents of a node wait.
-fn mark_parents(levels: &Vec<Option<u32>>, queue: &mut Queue, n: Node, look: &Look, visits: &mut Visits)
+fn mark_parents(
+    levels: &Vec<Option<u32>>,
+    queue: &mut Queue,
+    n: Node,
+    look: &Look,
+    visits: &mut Visits,
+)
     requires queue { IsQueue queue.old }
     requires room { (m : ℕ) → IsLive look.now.network m → m < length queue.old.levels.items }
     requires wide { (p : ℕ) → IsParent look.now.network n.0 p → height levels.now.items p < length queue.old.heads.items }
@@ -73,7 +79,13 @@ fn mark_parents(levels: &Vec<Option<u32>>, queue: &mut Queue, n: Node, look: &Lo
 }
 
 /// Makes a gate's answer anew. Whether it stays the same.
-fn renew<R: Rule>(kept: &mut Kept<R::Value>, rule: &R, n: Node, look: &Look, visits: &mut Visits) -> bool
+fn renew<R: Rule>(
+    kept: &mut Kept<R::Value>,
+    rule: &R,
+    n: Node,
+    look: &Look,
+    visits: &mut Visits,
+) -> bool
     requires sound { IsSound look.now.network kept.old.values.items kept.old.levels.items kept.old.queue.levels.items }
     requires dag { IsDag look.now.network }
     requires gate { IsSome (gate_at look.now.network n.0) }
@@ -103,7 +115,12 @@ fn renew<R: Rule>(kept: &mut Kept<R::Value>, rule: &R, n: Node, look: &Look, vis
 
 /// Takes the next gate that waits, renews its answer, and lets its parents wait where it changed; `None` exactly where nothing
 /// waits.
-fn advance<R: Rule>(kept: &mut Kept<R::Value>, rule: &R, look: &Look, visits: &mut Visits) -> Option<Node>
+fn advance<R: Rule>(
+    kept: &mut Kept<R::Value>,
+    rule: &R,
+    look: &Look,
+    visits: &mut Visits,
+) -> Option<Node>
     requires sound { IsSound look.now.network kept.old.values.items kept.old.levels.items kept.old.queue.levels.items }
     requires queue { IsQueue kept.old.queue }
     requires tied { IsTied kept.old.levels.items kept.old.queue.levels.items }
@@ -140,7 +157,14 @@ fn advance<R: Rule>(kept: &mut Kept<R::Value>, rule: &R, look: &Look, visits: &m
 }
 
 /// Repairs the answers after the gate at `n` was changed from `old`.
-fn repair<R: Rule>(kept: &mut Kept<R::Value>, rule: &R, n: Node, old: &Gate, look: &Look, visits: &mut Visits)
+fn repair<R: Rule>(
+    kept: &mut Kept<R::Value>,
+    rule: &R,
+    n: Node,
+    old: &Gate,
+    look: &Look,
+    visits: &mut Visits,
+)
     requires sound { IsSound look.now.network kept.old.values.items kept.old.levels.items kept.old.queue.levels.items }
     requires idle { IsIdle kept.old.queue }
     requires low { (m : ℕ) → height kept.old.levels.items m ≤ length kept.old.values.items }
@@ -170,7 +194,13 @@ fn repair<R: Rule>(kept: &mut Kept<R::Value>, rule: &R, n: Node, old: &Gate, loo
 }
 
 /// What a live number's fanins give it: the value and the level.
-fn answer_of<R: Rule>(kept: &Kept<R::Value>, rule: &R, n: Node, look: &Look, visits: &mut Visits) -> (R::Value, u32)
+fn answer_of<R: Rule>(
+    kept: &Kept<R::Value>,
+    rule: &R,
+    n: Node,
+    look: &Look,
+    visits: &mut Visits,
+) -> (R::Value, u32)
     requires live { IsLive look.now.network n.0 }
     requires room { (m : ℕ) → IsLive look.now.network m → m < length kept.now.values.items }
     requires dag { IsDag look.now.network }
@@ -223,7 +253,13 @@ fn leave<V>(kept: &mut Kept<V>, n: Node)
 }
 
 /// Brings the answers in step with the network after an event.
-pub fn follow<R: Rule>(kept: &mut Kept<R::Value>, rule: &R, look: &Look, event: &Event, visits: &mut Visits)
+pub fn follow<R: Rule>(
+    kept: &mut Kept<R::Value>,
+    rule: &R,
+    look: &Look,
+    event: &Event,
+    visits: &mut Visits,
+)
     requires event { IsEvent event.now look.now.network }
     requires room { (m : ℕ) → IsLive look.now.network m → m < length kept.old.values.items }
     requires stored { IsStored look.now.network }

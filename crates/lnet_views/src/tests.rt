@@ -107,7 +107,13 @@ enum Change {
 struct Row(Change, u32, u32, u64, [u32; 7]);
 
 /// Makes the change. How many reads the view counted.
-fn make(store: &mut Store, view: &mut DepthView, change: Change, a: u32, b: u32) -> Result<u64, Fail>
+fn make(
+    store: &mut Store,
+    view: &mut DepthView,
+    change: Change,
+    a: u32,
+    b: u32,
+) -> Result<u64, Fail>
     requires in_step { InStep (⟦<DepthView as View>⟧.spec_of view.old) (⟦<DepthView as View>⟧.kept view.old) store.old.network }
     ensures { OnOk result (InStep (⟦<DepthView as View>⟧.spec_of view.new) (⟦<DepthView as View>⟧.kept view.new) store.new.network) }
 {

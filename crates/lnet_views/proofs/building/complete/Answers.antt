@@ -1,7 +1,7 @@
-use Rattle.std.proofs.Common.{ap, sym, subst, ◌∙◌, ◌≡◌, ◌+◌, ◌*◌, ◌<◌, IsSome, ℕ, None, get_or}
+use Rattle.std.proofs.Common.{ap, sym, subst, ◌∙◌, ◌+◌, ◌*◌, ◌<◌, IsSome, None, get_or}
 use Rattle.lnet_model.specs.Networks.{live_count}
 use Rattle.lnet_model.specs.Levels.{level}
-use Rattle.lnet_views.specs.Building.{undone, AreTodo, Falls}
+use Rattle.lnet_views.specs.Building.{undone, AreTodo}
 use Rattle.lnet_views.proofs.FromScratch.{pushed-live, pushed-lowest, pushed-falls, pushed-todo, pushed-smaller, popped-live, popped-none, popped-lowest, popped-falls, popped-todo, popped-smaller, some-kept}
 use Rattle.lnet_views.proofs.building.complete.Goals as goal
 

@@ -1,4 +1,4 @@
-use Rattle.std.proofs.Common.{ap, sym, subst, ◌<◌, ◌≡◌, length, ℕ, IsSome, None, get_or}
+use Rattle.std.proofs.Common.{ap, sym, subst, ◌<◌, length, ℕ, IsSome, None, get_or}
 use Rattle.lnet_model.specs.Fanouts.{IsParent}
 use Rattle.lnet_model.specs.Networks.{entry_at}
 use Rattle.lnet_model.specs.Along.{In, fanin_nodes}

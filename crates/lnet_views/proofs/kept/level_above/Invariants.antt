@@ -1,4 +1,4 @@
-use Rattle.std.proofs.Common.{◌≡◌, ◌≤◌, max, map, drop}
+use Rattle.std.proofs.Common.{◌≡◌, ◌≤◌, max, drop}
 use Rattle.lnet_views.specs.Keeping.{tallest}
 use Rattle.lnet_model.specs.Dags.{NUMBERS}
 use Rattle.lnet_views.proofs.kept.level_above.Given as goal

@@ -1,6 +1,6 @@
-use Rattle.std.proofs.Common.{arith, ap, sym, subst, refl, false, true, ◌∙◌, ◌<◌, ◌≤◌, ◌≡◌, ◌≢◌, length}
+use Rattle.std.proofs.Common.{arith, ap, ◌∙◌, ◌≢◌, length}
 use Rattle.lnet_views.specs.declared.queue.Queue.{Queue}
-use Rattle.lnet_views.specs.Keeping.{level_or, height}
+use Rattle.lnet_views.specs.Keeping.{level_or}
 use Rattle.lnet_model.proofs.Levels.{level-falls}
 use Rattle.lnet_model.specs.Levels.{level}
 use Rattle.lnet_views.proofs.Links.{inside-list}

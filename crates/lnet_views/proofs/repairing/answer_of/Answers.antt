@@ -1,5 +1,5 @@
-use Rattle.std.proofs.Common.{arith, ap, sym, subst, refl, ◌<◌, ◌≡◌, length, true, ◌∙◌}
-use Rattle.lnet_model.specs.Networks.{entry_at, IsGate, NetworkValue, IsLive, gate_at, gate_in}
+use Rattle.std.proofs.Common.{sym, subst, ◌<◌, length}
+use Rattle.lnet_model.specs.Networks.{entry_at}
 use Rattle.lnet_views.specs.Keeping.{answer}
 use Rattle.lnet_views.proofs.Renewal.{gate-is, fanin-live, renewed-read, first-is}
 use Rattle.lnet_views.proofs.repairing.answer_of.Goals as goal

@@ -1,4 +1,4 @@
-use Rattle.std.proofs.Common.{arith, ap}
+use Rattle.std.proofs.Common.{ap}
 use Rattle.lnet_views.specs.declared.queue.Queue.{Queue}
 use Rattle.lnet_views.proofs.Events.{enter-known, enter-sound, enter-kept}
 use Rattle.lnet_views.proofs.Running.{rule-lawful}

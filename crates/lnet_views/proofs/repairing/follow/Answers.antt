@@ -1,11 +1,10 @@
-use Rattle.std.proofs.Common.{ℕ, ap, IsSome, refl, arith, not, ◌<◌, ◌≤◌, ◌≡◌, length, subst, sym}
-use Rattle.lnet_model.specs.Networks.{entry_at, IsGate, NetworkValue, IsLive, gate_at, gate_in}
+use Rattle.std.proofs.Common.{ℕ, ap, IsSome, refl, arith, not, ◌≤◌, subst, sym}
+use Rattle.lnet_model.specs.Networks.{IsGate, NetworkValue, gate_at, gate_in}
 use Rattle.lnet_model.specs.Changes.{was, IsEvent, IsGateAt}
 use Rattle.lnet_model.specs.Changes.{with_entry}
 use Rattle.lnet_model.specs.Dags.{IsDag}
-use Rattle.lnet_views.specs.Repair.{pair_eq, pair_step, IsSettled}
-use Rattle.lnet_model.specs.Visits.{reads_of, fanouts_in}
-use Rattle.lnet_views.specs.Rules.{rule_step, made}
+use Rattle.lnet_views.specs.Repair.{pair_eq}
+use Rattle.lnet_model.specs.Visits.{reads_of}
 use Rattle.lnet_views.specs.declared.queue.Queue.{Queue}
 use Rattle.lnet_views.specs.Keeping.{IsSound, IsKept, scratch}
 use Rattle.lnet_views.specs.Rules.{rule_bound}

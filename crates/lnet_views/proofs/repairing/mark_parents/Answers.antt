@@ -1,5 +1,4 @@
-use Rattle.std.proofs.Common.{arith, refl, sym, ◌∙◌, ap, subst, length, ◌+◌, ◌<◌, ◌≤◌, ◌≡◌, suc}
-use Rattle.lnet_views.specs.Chains.{waiting}
+use Rattle.std.proofs.Common.{arith, refl, sym, ◌∙◌, ap, subst, length, ◌<◌, ◌≤◌}
 use Rattle.lnet_views.specs.Keeping.{height}
 use Rattle.lnet_views.proofs.Marking.{marking-start, marking-parent, marking-inside, marking-step, marking-end}
 use Rattle.lnet_views.proofs.Parents.{each-parent, all-parents}

@@ -1,7 +1,7 @@
-use Rattle.std.proofs.Common.{◌≡◌, ℕ, ◌+◌, ◌*◌, ◌≤◌, length}
+use Rattle.std.proofs.Common.{◌≡◌, ◌+◌, ◌*◌, ◌≤◌, length}
 use Rattle.lnet_model.specs.Fanouts.{fan}
 use Rattle.lnet_views.specs.Chains.{waiting, IsQueue}
-use Rattle.lnet_views.specs.Keeping.{mark, IsMarking, IsTied}
+use Rattle.lnet_views.specs.Keeping.{IsMarking, IsTied}
 use Rattle.lnet_views.proofs.repairing.mark_parents.Given as goal
 
 abbrev pub invariant-steps : goal.invariant-steps

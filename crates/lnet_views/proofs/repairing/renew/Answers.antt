@@ -1,9 +1,8 @@
-use Rattle.std.proofs.Common.{arith, ap, sym, subst, refl, ◌<◌, ◌≡◌, length, true, ◌∙◌}
-use Rattle.lnet_model.specs.Networks.{entry_at, IsGate, NetworkValue, IsLive, gate_at, gate_in}
+use Rattle.std.proofs.Common.{arith, sym, subst, ◌<◌, ◌≡◌, length, true}
+use Rattle.lnet_model.specs.Networks.{entry_at}
 use Rattle.lnet_model.specs.Along.{once}
-use Rattle.lnet_views.specs.Repair.{pair_eq, pair_step, IsSettled}
-use Rattle.lnet_model.specs.Visits.{reads_of, fanouts_in}
-use Rattle.lnet_views.specs.Rules.{rule_step, made}
+use Rattle.lnet_views.specs.Repair.{pair_eq, pair_step}
+use Rattle.lnet_views.specs.Rules.{rule_step}
 use Rattle.lnet_views.specs.Keeping.{answer}
 use Rattle.lnet_views.proofs.Renewal.{gate-is, read-inside, read-known, renewed-read, renewed-here, gate-live}
 use Rattle.lnet_views.proofs.repairing.renew.Goals as goal

@@ -1,4 +1,4 @@
-use Rattle.std.proofs.Common.{arith, refl, sym, ap, subst, ◌∙◌, ◌<◌, ◌≤◌, ◌+◌, ◌*◌, cond, length, ◌≡◌, ℕ, None, get_or}
+use Rattle.std.proofs.Common.{arith, refl, sym, ap, ◌∙◌, ◌<◌, ◌≤◌, ◌+◌, ◌*◌, length, ◌≡◌, ℕ, None, get_or}
 use Rattle.std.specs.Prelude.{is_some}
 use Rattle.lnet_model.specs.Networks.{NetworkValue, IsGate, live_count}
 use Rattle.lnet_model.specs.Levels.{level}

@@ -1,4 +1,4 @@
-use Rattle.std.proofs.Common.{refl, arith}
+use Rattle.std.proofs.Common.{refl}
 use Rattle.lnet_model.specs.Changes.{was}
 use Rattle.lnet_views.specs.Follows.{answers_in}
 use Rattle.lnet_views.proofs.DepthLemmas.{depth-in-step, depth-follows, depth-visits, within}

@@ -1,4 +1,4 @@
-use Rattle.std.proofs.Common.{arith, ap, ◌≡◌, ◌<◌, length, Some, None, sym, subst, ◌∙◌}
+use Rattle.std.proofs.Common.{arith, ap, ◌<◌, length, Some, None, sym, ◌∙◌}
 use Rattle.lnet_views.specs.Chains.{at}
 use Rattle.lnet_views.proofs.Links.{head-waits, head-lowest, raise-floor, get_or-is}
 use Rattle.lnet_views.proofs.queue.Queue.take.Goals as goal

@@ -1,4 +1,4 @@
-use Rattle.std.proofs.Common.{arith, ◌≡◌, ◌<◌, length, Some, None, sym, subst, set}
+use Rattle.std.proofs.Common.{arith, ◌≡◌, ◌<◌, length, None, sym, subst, set}
 use Rattle.lnet_views.specs.Chains.{at, AreChains}
 use Rattle.lnet_views.proofs.Waits.{waiting-off}
 use Rattle.lnet_views.proofs.Links.{head-waits, take-chains, head-inside, get_or-is}

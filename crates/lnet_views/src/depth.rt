@@ -38,7 +38,7 @@ impl Rule for LevelsAlone {
 /// A view that keeps the level of each live node: 0 for the constant and the inputs, and for a gate one more than the greatest
 /// of its fanins' levels.
 ///
-/// Memory: 6 bytes a number, and the stack of the attach.
+/// Memory: four lists of an optional `u32` each, by number or by level; and the stack while it is attached.
 #[derive(Drop)]
 pub struct DepthView {
     follow: Follow<LevelsAlone>,

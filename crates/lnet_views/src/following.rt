@@ -93,7 +93,8 @@ impl<R: Rule> Follow<R> {
         self.rule = None;
     }
 
-    /// Gets memory for at least so many numbers. Whatever it answers, the follower keeps its rule and its answers.
+    /// Gets memory for at least so many numbers. Whatever it answers, the follower keeps its rule and its answers. While it is
+    /// detached, the memory for the values comes with the attach alone. Linear in the numbers.
     pub fn reserve(&mut self, numbers: u32) -> Result<(), AllocError>
         ensures rule { self.new.rule ≡ self.old.rule }
         ensures kept { (n : ℕ) → answers_in self.new.kept n ≡ answers_in self.old.kept n }
@@ -110,7 +111,8 @@ impl<R: Rule> Follow<R> {
     /// event, and has memory for each number that is live before or after it. It takes no memory.
     ///
     /// The reads that it counts are at most one, and two for each place in the fanout of a node that was live before and
-    /// whose level or value the event changes.
+    /// whose level or value the event changes. The time is that of computing each gate that it reads, and of passing over the
+    /// levels from the event's node up to the last node that is computed.
     pub fn after(&mut self, look: Look, event: &Event, visits: &mut Visits)
         requires before { IsDag (was event.now look.network) }
         requires in_step { IsFollowing R.Value.eq R.first_of R.gives self.old.rule (answers_in self.old.kept) (was event.now look.network) }

@@ -1,6 +1,7 @@
 //! Times calls of the library: `lnet_bench CALLS` makes each call so many times, and prints the nanoseconds of each.
 #![tactic(auto)]
 
+mod covers;
 mod gates;
 mod report;
 mod tables;
@@ -16,7 +17,8 @@ fn main(rt: HostRuntime) -> io::Result<()> {
     match calls {
         Some(calls) => {
             tables::time_all(&rt, calls)?;
-            gates::time_all(&rt, calls)
+            gates::time_all(&rt, calls)?;
+            covers::time_all(&rt, rt.alloc(), calls)
         }
         None => println!(rt; "usage: lnet_bench CALLS"),
     }

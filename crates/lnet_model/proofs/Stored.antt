@@ -15,6 +15,7 @@ use Rattle.lnet_model.specs.Changes.{with_entry, without, AreLive, GateAt, IsGat
 use Rattle.lnet_model.specs.Dags.{IsStored, AreBelow, NUMBERS}
 use Rattle.lnet_model.proofs.Map.{len_positive}
 use Rattle.lnet_model.proofs.Changes.{with_entry-here, with_entry-apart, without-here, without-apart, add-Acyclic, add-IsClosed}
+use Rattle.lnet_model.proofs.Removals.{left-live, remove-Acyclic, remove-IsClosed}
 use Rattle.lnet_model.proofs.Fan.{parent-in-fan}
 
 -- networks that answer alike are one
@@ -199,27 +200,8 @@ module _ (N : NetworkValue) (n : ℕ) (none : references N n ≡ 0) where
   no-output i = no-count n N.outputs (omega arith) i
 
 module _ (N : NetworkValue) (k : ℕ) (stored : IsStored N) (gate : IsGateAt N k) (none : references N k ≡ 0) where
-  entry_old : (q m : ℕ) → In m (fanin_nodes (entry_at (without N k) q)) → In m (fanin_nodes (entry_at N q))
-  entry_old q m i = elim (eqb_tells q k) as (λ _. In m (fanin_nodes (entry_at N q))) [
-    | inl p ↦ absurd (subst (λ o. In m (fanin_nodes o)) (ap (entry_at (without N k)) p.1 ∙ without-here N k) i)
-    | inr p ↦ subst (λ o. In m (fanin_nodes o)) (without-apart N k q p.1) i
-  ]
-
-  live_then : (q : ℕ) → IsLive (without N k) q → IsLive N q
-  live_then q h = elim (eqb_tells q k) as (λ _. IsLive N q) [
-    | inl p ↦ subst (IsLive N) (sym p.1) (live-gate N k gate)
-    | inr p ↦ subst IsSome (without-apart N k q p.1) h
-  ]
-
   live_now : (q : ℕ) → q ≢ k → IsLive N q → IsLive (without N k) q
   live_now q ne h = subst IsSome (sym (without-apart N k q ne)) h
-
-  walk_then : (q : ℕ) (ns : List ℕ) → IsWalk (entry_at (without N k)) q ns → IsWalk (entry_at N) q ns
-  walk_then q [] w = live_then q w
-  walk_then q (m ∷ ns) w = (live_then q w.0, entry_old q m w.1, walk_then m ns w.2)
-
-  without-closed : IsClosed (without N k)
-  without-closed q m i = (let j = entry_old q m i in live_now m (λ e. no-parent N k none q (subst (λ z. In z (fanin_nodes (entry_at N q))) e j)) (stored.dag.closed q m j))
 
   gate_then : (q : ℕ) (e : Entry) → entry_at (without N k) q ≡ Some e → entry_at N q ≡ Some e
   gate_then q e at = elim (eqb_tells q k) as (λ _. entry_at N q ≡ Some e) [
@@ -231,20 +213,20 @@ module _ (N : NetworkValue) (k : ℕ) (stored : IsStored N) (gate : IsGateAt N k
   unfolding without
   stored-remove = record {
     dag = record {
-      acyclic = λ q m ns w. stored.dag.acyclic q m ns (walk_then q (m ∷ ns) w);
-      closed = without-closed;
+      acyclic = remove-Acyclic N k stored.dag.acyclic;
+      closed = remove-IsClosed N k stored.dag.closed (no-parent N k none);
       arities = λ q h at. stored.dag.arities q h (gate_then q (IsGate h) at);
     };
     whole = record {
       first = without-apart N k 0 (λ e. let z : Some Constant ≡ Some (IsGate gate.0) = sym stored.whole.first ∙ ap (entry_at N) e ∙ gate.1 in cc) ∙ stored.whole.first;
-      closed = without-closed;
+      closed = remove-IsClosed N k stored.dag.closed (no-parent N k none);
       outputs_live = λ m i. live_now m (λ e. no-output N k none (subst (λ z. In z (nodes_read N.outputs)) e i)) (stored.whole.outputs_live m i);
     };
     inputs = λ q j. (
       λ e. (stored.inputs q j).0 (gate_then q (Input j) e),
       λ e. (let at = (stored.inputs q j).1 e in without-apart N k q (λ is. let z : Some (Input j) ≡ Some (IsGate gate.0) = sym at ∙ ap (entry_at N) is ∙ gate.1 in cc) ∙ at),
     );
-    below = λ q h. stored.below q (live_then q h);
+    below = λ q h. stored.below q (left-live N k q h);
     few_outputs = stored.few_outputs;
   }
 

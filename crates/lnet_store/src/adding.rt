@@ -73,8 +73,9 @@ impl Store {
         }
     }
 
-    /// Gets memory for so many new nodes, or for as many as there are free numbers. Where it needs more than it has, it
-    /// doubles it at least, so that a network is built in linear time. Whatever it answers, it loses no memory.
+    /// Gets memory for so many new nodes, or for as many as there are free numbers. Refused for want of it, the network is as
+    /// it was, and no memory is lost. Where there is too little, the room is doubled at least, so that building is linear.
+    /// Linear in the numbers, and constant time where there is enough.
     pub fn reserve(&mut self, numbers: u32) -> Result<(), AllocError>
         ensures network { self.new.network ≡ self.old.network }
         ensures stamp { self.new.stamp ≡ self.old.stamp }

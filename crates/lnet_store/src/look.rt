@@ -181,6 +181,7 @@ impl<'a> Parents<'a> {
     pub fn next(&mut self, visits: &mut Visits) -> Option<(Node, u8)>
         requires { visits.old.stamp ≡ self.old.stamp }
         ensures given { MatchOption result (self.old.rest ≡ []) (λ p. self.old.rest ≡ (p.0.0, p.1) ∷ self.new.rest) }
+        ensures ended { self.old.rest ≡ [] → self.new.rest ≡ [] }
         ensures same { self.new.stamp ≡ self.old.stamp }
         ensures stamp { visits.new.stamp ≡ visits.old.stamp }
         ensures count { MatchOption result (visits.new.count ≡ visits.old.count) (λ _. visits.new.count ≡ raised visits.old.count) }
@@ -192,7 +193,11 @@ impl<'a> Parents<'a> {
                 visits.count_one();
                 Some((Node(at), slot))
             }
-            None => None,
+            None => {
+                self.at = self.store.numbers();
+                self.slot = 0;
+                None
+            }
         }
     }
 }

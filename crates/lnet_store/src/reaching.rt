@@ -70,7 +70,13 @@ fn enter_fanins(nodes: &NodeSlots, marks: &mut Vec<bool>, queue: &mut Vec<u32>, 
 }
 
 /// Whether a walk from a live node comes to the other. It leaves the nodes that it came to marked and in the queue.
-fn search(nodes: &NodeSlots, marks: &mut Vec<bool>, queue: &mut Vec<u32>, from: u32, to: u32) -> bool
+fn search(
+    nodes: &NodeSlots,
+    marks: &mut Vec<bool>,
+    queue: &mut Vec<u32>,
+    from: u32,
+    to: u32,
+) -> bool
     requires live { IsSome (get nodes.now.nodes from) }
     requires closed { (n m : ℕ) → In m (fanin_nodes (get nodes.now.nodes n)) → IsSome (get nodes.now.nodes m) }
     requires fitting { IsFitting nodes.now }
@@ -116,13 +122,7 @@ impl Store {
             return false;
         }
         self.queue.clear();
-        let found = search(
-            &self.nodes,
-            &mut self.marks,
-            &mut self.queue,
-            s.node.0,
-            n.0,
-        );
+        let found = search(&self.nodes, &mut self.marks, &mut self.queue, s.node.0, n.0);
         unmark(&mut self.marks, &self.queue);
         found
     }

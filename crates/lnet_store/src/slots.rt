@@ -11,6 +11,9 @@ use std::alloc::{AllocError, Global};
 use std::marker::Model;
 use std::mem;
 
+/// How many numbers a network can have.
+pub(crate) const LIMIT: u32 = 1_048_576;
+
 /// What stands at a live number.
 #[derive(Drop)]
 pub(crate) enum Slot {
@@ -55,9 +58,6 @@ impl Model for NodeSlots {
 
     ghost invariant = { λ s. IsCounted s.slots.items s.live s.numbers s.floor };
 }
-
-/// How many numbers a network can have.
-pub(crate) const LIMIT: u32 = 1_048_576;
 
 /// So many empty slots more.
 fn extend(slots: &mut Vec<Option<Slot>>, more: u32) -> Result<(), AllocError>

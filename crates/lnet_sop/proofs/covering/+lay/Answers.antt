@@ -1,9 +1,9 @@
-use Rattle.std.proofs.Common.{◌≡◌, ◌-◌, ◌++◌, ℕ, true, false, List, [], ◌∷◌, map, refl, sym, ap, ◌∙◌, subst, append-nil, ◌==◌, ◌||◌}
-use Rattle.lnet_tables.specs.Bits.{Rows, constant_rows, expand_rows, and_rows}
+use Rattle.std.proofs.Common.{◌≡◌, ◌-◌, ◌++◌, ℕ, true, false, List, map, refl, sym, ap, ◌∙◌}
+use Rattle.lnet_tables.specs.Bits.{Rows, expand_rows, and_rows}
 use Rattle.lnet_tables.specs.Shannon.{is_constant}
 use Rattle.lnet_sop.specs.declared.cover.Cube.{Cube}
 use Rattle.lnet_sop.specs.Covers.{union_rows}
-use Rattle.lnet_sop.specs.Isop.{in_context, half, minus_rows, or_rows, cubes_of}
+use Rattle.lnet_sop.specs.Isop.{in_context, minus_rows, or_rows, cubes_of}
 use Rattle.lnet_sop.proofs.Cubes.{Turn, turn_of, none_added, none_union, whole_added, whole_union, cubes_each, union_passed, union_step, context_step, cubes_passed, cubes_split, same_union, same_added, some_left, left_is, literal_added, joined_as}
 use Rattle.lnet_sop.proofs.covering.+lay.Goals as goal
 

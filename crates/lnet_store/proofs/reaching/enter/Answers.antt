@@ -1,8 +1,8 @@
-use Rattle.std.proofs.Common.{◌≡◌, ◌<◌, ◌++◌, ◌∷◌, [], List, ℕ, Bool, true, false, get_or, length, subst, sym, ap, ◌∙◌, arith}
+use Rattle.std.proofs.Common.{◌≡◌, ◌∷◌, [], List, ℕ, Bool, true, false, get_or, subst, sym, ap, ◌∙◌, arith}
 use Rattle.std.proofs.Math.ListN.{set}
 use Rattle.std.specs.Vec.{vec_capacity}
 use Rattle.lnet_store.specs.Search.{AreMarked, Enters}
-use Rattle.lnet_store.proofs.SearchLemmas.{place-left, marked-more, entered-new, entered-old}
+use Rattle.lnet_store.proofs.SearchLemmas.{place-left, marked-more, entered-new}
 use Rattle.lnet_store.proofs.reaching.enter.Goals as goal
 
 pub push_reserved-requires : goal.push_reserved-requires

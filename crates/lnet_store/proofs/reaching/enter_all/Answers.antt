@@ -1,10 +1,9 @@
-use Rattle.std.proofs.Common.{◌≡◌, ◌+◌, ◌<◌, ◌∷◌, [], List, ℕ, false, get_or, length, take, subst, sym, ap, ◌∙◌, arith}
+use Rattle.std.proofs.Common.{◌∷◌, [], false, get_or, subst, sym, ◌∙◌, arith}
 use Rattle.std.specs.Vec.{vec_capacity}
 use Rattle.lnet_gates.specs.declared.signal.Signal.{Signal}
-use Rattle.lnet_model.specs.Along.{nodes_read}
-use Rattle.lnet_store.specs.Search.{AreMarked, Enters, HasPlaces}
+use Rattle.lnet_store.specs.Search.{HasPlaces}
 use Rattle.lnet_store.proofs.CountLemmas.{read-In}
-use Rattle.lnet_store.proofs.SearchLemmas.{enters-none, enters-more, places-more}
+use Rattle.lnet_store.proofs.SearchLemmas.{enters-more, places-more}
 use Rattle.lnet_store.proofs.reaching.enter_all.Goals as goal
 
 abbrev past : Signal

@@ -1,10 +1,8 @@
-use Rattle.std.proofs.Common.{◌≡◌, ◌<◌, List, ℕ, Some, length, subst, sym, ap, ◌∙◌, arith}
+use Rattle.std.proofs.Common.{◌≡◌, List, subst, sym, ap, ◌∙◌}
 use Rattle.std.specs.FinMap.{get}
 use Rattle.lnet_gates.specs.declared.signal.Signal.{Signal}
 use Rattle.lnet_gates.specs.Gates.{GateValue}
-use Rattle.lnet_model.specs.Networks.{IsGate}
 use Rattle.lnet_model.specs.Along.{In, nodes_read, fanin_nodes}
-use Rattle.lnet_store.specs.Search.{AreMarked, Enters, HasPlaces}
 use Rattle.lnet_store.proofs.KeptLemmas.{gate-at}
 use Rattle.lnet_store.proofs.reaching.enter_fanins.Goals as goal
 

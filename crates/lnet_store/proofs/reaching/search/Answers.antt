@@ -1,9 +1,9 @@
-use Rattle.std.proofs.Common.{Bool, ◌≡◌, ◌+◌, ◌<◌, ◌≤◌, ◌∷◌, [], List, ℕ, true, false, IsSome, get_or, length, subst, sym, ap, ◌∙◌, inl, inr, arith}
+use Rattle.std.proofs.Common.{Bool, ◌≡◌, ◌<◌, ◌∷◌, [], List, ℕ, false, IsSome, get_or, length, subst, sym, ap, ◌∙◌, inl, inr, arith}
 use Rattle.std.specs.Vec.{vec_capacity}
-use Rattle.std.specs.FinMap.{get, len}
+use Rattle.std.specs.FinMap.{get}
 use Rattle.lnet_model.specs.Along.{In, fanin_nodes}
 use Rattle.lnet_model.proofs.Map.{count_apart}
-use Rattle.lnet_store.specs.Search.{AreMarked, Enters, HasPlaces, IsUnderway}
+use Rattle.lnet_store.specs.Search.{Enters}
 use Rattle.lnet_store.proofs.CountLemmas.{get-default}
 use Rattle.lnet_store.proofs.SearchLemmas.{places-live, underway-first, underway-live, underway-more, underway-all}
 use Rattle.lnet_store.proofs.reaching.search.Goals as goal

@@ -1,4 +1,4 @@
-use Rattle.std.proofs.Common.{◌≡◌, ◌≤◌, ◌-◌, length}
+use Rattle.std.proofs.Common.{◌≡◌, ◌-◌, length}
 use Rattle.std.specs.Vec.{vec_capacity}
 use Rattle.std.specs.FinMap.{get, len}
 use Rattle.lnet_store.specs.Search.{AreMarked, IsUnderway}

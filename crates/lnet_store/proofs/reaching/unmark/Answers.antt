@@ -1,4 +1,4 @@
-use Rattle.std.proofs.Common.{◌≡◌, ◌<◌, List, ℕ, get_or, length, subst, sym, ap, ◌∙◌, arith}
+use Rattle.std.proofs.Common.{get_or, arith}
 use Rattle.lnet_store.proofs.SearchLemmas.{true-within, index-in}
 use Rattle.lnet_store.proofs.reaching.unmark.Goals as goal
 

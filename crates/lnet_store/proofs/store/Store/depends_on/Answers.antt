@@ -1,27 +1,12 @@
-use Rattle.std.proofs.Common.{inl, inr, Bool, Fits, Ok, Err, OnOk, OnErr, IfOk, ◌≡◌, ◌≢◌, ℕ, ◌<◌, ◌≤◌, ◌+◌, ◌-◌, ◌*◌, ◌^◌, ◌↔◌, min, max, IsTrue, IsSome, Some, None, List, [], ◌∷◌, ◌++◌, map, slice_get, slice_index, get_or, length, length-append, subst, ap, sym, refl, ◌∙◌, arith}
-use Rattle.std.proofs.lemmas.Grind.{common_steps}
-use Rattle.std.proofs.lemmas.Option.{gets}
-use Rattle.std.specs.Vec.{vec_capacity}
-use Rattle.std.specs.FinMap.{get, insert, remove, len}
-use Rattle.lnet_gates.specs.declared.signal.Node.{Node}
-use Rattle.lnet_gates.specs.declared.signal.Signal.{Signal}
-use Rattle.lnet_model.specs.Networks.{NetworkValue, Entry, gate_in, Input, IsGate, IsLive, entry_at, live_count}
-use Rattle.lnet_model.specs.Along.{In, nodes_read}
-use Rattle.lnet_model.specs.Fanouts.{references}
-use Rattle.lnet_model.specs.Changes.{with_entry, without, IsLeastFree}
-use Rattle.lnet_model.specs.Dags.{IsStored, numbers_of, NUMBERS, OUTPUTS}
+use Rattle.std.proofs.Common.{◌≡◌, ◌↔◌, IsTrue, IsSome, subst, ap, sym, ◌∙◌}
+use Rattle.std.specs.FinMap.{get}
+use Rattle.lnet_model.specs.Networks.{entry_at}
+use Rattle.lnet_model.specs.Along.{In}
+use Rattle.lnet_model.specs.Dags.{IsStored}
 use Rattle.lnet_store.specs.StoreValues.{StoreValue}
-use Rattle.lnet_store.specs.Held.{Numbered, IsFitting, entry_of}
-use Rattle.lnet_store.specs.Fields.{network_of, HasRoom, AreReferences, naming}
-use Rattle.lnet_store.proofs.StoreLemmas.{entry-of, live-of, inputs-of, outputs-of, room-more, network-same, counts-same, on-ok}
-use Rattle.lnet_gates.specs.Gates.{GateValue}
-use Rattle.lnet_model.specs.Changes.{GateAt, IsGateAt}
-use Rattle.lnet_model.proofs.Stored.{stored-add, stored-set, stored-remove, count-add, count-set, count-remove, set_back, put_back, take_back}
-use Rattle.lnet_store.specs.StoreValues.{with_input, with_new_output, with_output}
-use Rattle.lnet_store.proofs.ChangeLemmas.{network-with, network-without, network-input, network-new_output, network-output, stored-input, count-input, input-was, stored-new_output, stored-output, few-inputs}
-use Rattle.lnet_store.proofs.KeptLemmas.{gate-at, gate-there, fanin-live, counts-known, counts-fit, gate-six, room-kept, kept-add, kept-input, kept-new_output, kept-remove, kept-set, kept-output, gate-counted, output-counted}
+use Rattle.lnet_store.specs.Fields.{network_of, AreReferences}
+use Rattle.lnet_store.proofs.StoreLemmas.{entry-of}
 use Rattle.lnet_store.proofs.store.Store.depends_on.Goals as goal
-
 use Rattle.std.proofs.Common.{true, false}
 use Rattle.lnet_model.specs.Along.{fanin_nodes}
 use Rattle.lnet_store.specs.Search.{Comes}
@@ -33,8 +18,7 @@ returns-then-not-is_live-clause-answer c =
     let is : network_of c.self.inside.nodes.nodes c.self.inside.inputs.items c.self.inside.outputs.items ≡ c.args.self.now.network = ap (λ (h : StoreValue). h.network) c.self.view_is in
     let stored : IsStored c.args.self.now.network = subst IsStored is c.self.invariant.0 in
     let refs : AreReferences c.self.inside.counts.items c.args.self.now.network = subst (AreReferences c.self.inside.counts.items) is c.self.invariant.2 in
-    let room = c.self.invariant.1 in
-    (
+    let room = c.self.invariant.1 in (
       λ f. absurd (let z : false ≡ true = f in cc),
       λ d. (let live = c.is_live.ensures.1 (subst IsSome (sym (entry-of c.self.inside.nodes.nodes c.self.inside.inputs.items c.self.inside.outputs.items c.args.self.now.network is c.args.s.node.0)) (start-live (entry_at c.args.self.now.network) c.args.s.node.0 c.args.n.0 d)) in let z : false ≡ true = sym c.if-not-is_live.true ∙ live in z),
     )

@@ -1,0 +1,17 @@
+pub mod Repair
+pub mod Count
+pub mod Pair
+pub mod Renewal
+pub mod Running
+pub mod Marking
+pub mod Bounds
+pub mod Events
+pub mod Steps
+pub mod Parents
+pub mod FromScratch
+pub mod FollowLemmas
+pub mod DepthLemmas
+pub mod Links
+pub mod Waits
+pub mod Counts
+pub mod Queueing

@@ -1,3 +1,4 @@
 pub mod Links
 pub mod Cuts
 pub mod Walks
+pub mod Tables

@@ -7,8 +7,8 @@ use Rattle.lnet_strash.specs.Chains.{link, Within, Distinct, IsChain, Chain, Are
 pub some-is : (a b : ℕ) → Some a ≡ Some b → a ≡ b
 some-is a b e = cc
 
-pub not-some : (a : ℕ) (o : Option ℕ) → o ≡ None → o ≡ Some a → ⊥
-not-some a o e f = let z : None ≡ Some a = sym e ∙ f in cc
+pub not-some : {X : Type 0} (a : X) (o : Option X) → o ≡ None → o ≡ Some a → ⊥
+not-some {X} a o e f = let none : Option X = None in let z : none ≡ Some a = sym e ∙ f in cc
 
 -- what stands inside a list doesn't hang on the default
 pub get_or-is : {X : Type 0} (xs : List X) (i : ℕ) (x d : X) → i < length xs → x ≡ get_or xs i x → x ≡ get_or xs i d

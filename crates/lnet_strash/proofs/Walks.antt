@@ -42,6 +42,12 @@ distinct-is (n ∷ ns) d = (apart-all n ns d.0, distinct-is ns d.1)
 distinct-few : (ns : List ℕ) (n : ℕ) → Distinct ns → ((m : ℕ) → Within m ns → m < n) → length ns ≤ n
 distinct-few ns n d below = length-le_from_distinct_below ns n (distinct-is ns d) (λ q e. below q (any-within q ns e))
 
+-- what belongs in a chain stands
+pub home-inside : (chains : ℕ) (t : Standing) (n c : ℕ) → home_of chains t n ≡ Some c → n < length t
+home-inside chains [] n c e = absurd (not-some c None refl e)
+home-inside chains (e ∷ t) zero c h = omega arith
+home-inside chains (e ∷ t) (suc n) c h = let less = home-inside chains t n c h in omega arith
+
 -- the walk has come to the link `to`: what may still stand under the key comes from there on
 pub record Walk (heads next : List (Option ℕ)) (t : Standing) (k : KeyValue) (before to : Option ℕ) : Type 0 where
   pub rest : List ℕ
@@ -88,18 +94,18 @@ module _ (heads next : List (Option ℕ)) (t : Standing) (k : KeyValue) (T : IsT
       pub walk-home : home_of (length heads) t n ≡ Some (chain_of (length heads) k)
       walk-home = W.belongs n (subst (Within n) (sym first.1) (inl refl))
 
-      pub walk-inside : n < length next
-      walk-inside = T.chains.inside n (chain_of (length heads) k) walk-home
+      pub walk-inside : n < length t
+      walk-inside = home-inside (length heads) t n (chain_of (length heads) k) walk-home
 
       -- it goes on where another key stands
-      pub walk-goes : (StandsUnder t n k → ⊥) → (to' : Option ℕ) → to' ≡ link next n → Walk heads next t k to to'
+      pub walk-goes : (StandsUnder t n k → ⊥) → (to' : Option ℕ) → to' ≡ link next n → Walk heads next t k (Some n) to'
       walk-goes not to' e = record {
         rest = first.0;
         linked = subst (λ z. IsChain next z first.0) (sym e) first.2;
         apart = apart.1;
         belongs = λ m i. W.belongs m (subst (Within m) (sym first.1) (inr i));
         all = λ m s. elim (subst (Within m) first.1 (W.all m s)) as (λ _. Within m first.0) [ inl same ↦ absurd (not (subst (λ z. StandsUnder t z k) same s)) | inr i ↦ i ];
-        after = subst (λ z. IsLinkAfter heads next (home_of (length heads) t) (chain_of (length heads) k) z to') (sym is) (walk-home, sym e);
+        after = (walk-home, sym e);
       }
 
       few : length W.rest ≤ length next

@@ -1,10 +1,10 @@
 //! A chained hash table over the numbers of nodes: each number has its own place, so that entries come and go without memory.
 
-ghost use Rattle.std.specs.Prelude.{◌≡◌, ◌≢◌, ◌<◌, ◌≤◌, ℕ, Bool, Some, None, length, slice_set, MatchOption, OnOk, OnErr};
+ghost use Rattle.std.specs.Prelude.{◌≡◌, ◌≢◌, ◌<◌, ◌≤◌, ℕ, Bool, Some, None, length, slice_set, MatchOption, OnOk, OnErr, IsTrue, slice_index_or, max};
 ghost use Rattle.lnet_gates.specs.Gates.{KeyValue};
 ghost use Rattle.lnet_strash.specs.Keys as keys;
 ghost use Rattle.lnet_strash.specs.Standing.{at};
-ghost use Rattle.lnet_strash.specs.Chains.{link, home_of, AreChains, IsTable};
+ghost use Rattle.lnet_strash.specs.Chains.{link, home_of, AreChains, IsTable, IsAbsent, StandsUnder, IsLinkAfter};
 
 use crate::hashing::{chain_of, is_same};
 use lnet_gates::Key;
@@ -31,4 +31,120 @@ pub(crate) struct Found {
     pub(crate) before: Option<u32>,
     /// The number.
     pub(crate) number: u32,
+}
+
+impl Chains {
+    ghost use Rattle.lnet_strash.specs.Found.{IsFound};
+
+    /// Whether the node of the number stands under the key. Constant time.
+    fn stands_under(&self, number: u32, key: &Key) -> bool
+        requires { number < length self.now.standing.items }
+        ensures yes { IsTrue result → StandsUnder self.now.standing.items number key.now }
+        ensures no { StandsUnder self.now.standing.items number key.now → IsTrue result }
+    {
+        match &self.standing[number as usize] {
+            Some((other, _)) => is_same(other, key),
+            None => false,
+        }
+    }
+
+    /// Where the node stands that stands under the key; none exactly where none does. As long as the key's chain, so constant
+    /// time on average.
+    pub(crate) fn search(&self, key: &Key) -> Option<Found>
+        requires table { IsTable self.now.heads.items self.now.next.items self.now.standing.items }
+        ensures found { MatchOption result (IsAbsent self.now.standing.items key.now) (λ f. IsFound self.now key.now f) }
+    {
+        let mut before = None;
+        let mut to = self.heads[chain_of(self.heads.len(), key)];
+        'walk: while let Some(number) = to {
+            if self.stands_under(number, key) {
+                return Some(Found { before, number });
+            }
+            before = to;
+            to = self.next[number as usize];
+        }
+        None
+    }
+
+    /// Puts the number at the head of the chain. Constant time.
+    fn prepend(&mut self, number: u32, chain: usize)
+        requires chain { chain < length self.old.heads.items }
+        requires number { number < length self.old.next.items }
+        ensures heads { self.new.heads.items ≡ slice_set self.old.heads.items chain (Some number) }
+        ensures next { self.new.next.items ≡ slice_set self.old.next.items number (link self.old.heads.items chain) }
+        ensures standing { self.new.standing.items ≡ self.old.standing.items }
+    {
+        self.next[number as usize] = self.heads[chain];
+        self.heads[chain] = Some(number);
+    }
+}
+
+impl Chains {
+    /// Lets the node of the number stand under the key. Constant time, and no memory.
+    pub(crate) fn insert(&mut self, key: Key, number: u32, phase: bool)
+        requires table { IsTable self.old.heads.items self.old.next.items self.old.standing.items }
+        requires number { number < length self.old.standing.items }
+        requires free { at self.old.standing.items number ≡ None }
+        requires absent { IsAbsent self.old.standing.items key }
+        ensures table { IsTable self.new.heads.items self.new.next.items self.new.standing.items }
+        ensures standing { self.new.standing.items ≡ slice_set self.old.standing.items number (Some (key, phase)) }
+    {
+        let chain = chain_of(self.heads.len(), &key);
+        self.prepend(number, chain);
+        self.standing[number as usize] = Some((key, phase));
+    }
+
+    /// Takes the number out of its chain, and lets its node stand under no key. Constant time.
+    fn take_out(&mut self, found: Found, chain: usize)
+        requires table { IsTable self.old.heads.items self.old.next.items self.old.standing.items }
+        requires chain { chain < length self.old.heads.items }
+        requires home { home_of (length self.old.heads.items) self.old.standing.items found.number ≡ Some chain }
+        requires after { IsLinkAfter self.old.heads.items self.old.next.items (home_of (length self.old.heads.items) self.old.standing.items) chain found.before (Some found.number) }
+        ensures table { IsTable self.new.heads.items self.new.next.items self.new.standing.items }
+        ensures standing { self.new.standing.items ≡ slice_set self.old.standing.items found.number None }
+    {
+        let after = self.next[found.number as usize];
+        match found.before {
+            Some(before) => self.next[before as usize] = after,
+            None => self.heads[chain] = after,
+        }
+        self.standing[found.number as usize] = None;
+    }
+
+    /// Lets the node that stands under the key stand under none. As long as the key's chain, so constant time on average, and
+    /// no memory.
+    pub(crate) fn remove(&mut self, key: &Key)
+        requires table { IsTable self.old.heads.items self.old.next.items self.old.standing.items }
+        ensures table { IsTable self.new.heads.items self.new.next.items self.new.standing.items }
+        ensures standing { (n : ℕ) → StandsUnder self.old.standing.items n key.now → self.new.standing.items ≡ slice_set self.old.standing.items n None }
+    {
+        let chain = chain_of(self.heads.len(), key);
+        if let Some(found) = self.search(key) {
+            self.take_out(found, chain);
+        }
+    }
+}
+
+/// At least so many places, the further ones empty. Linear in the places to come.
+fn lengthen<T: Drop>(items: &mut Vec<Option<T>>, len: usize) -> Result<(), AllocError>
+    ensures same { (n : ℕ) → slice_index_or items.new.items n None ≡ slice_index_or items.old.items n None }
+    ensures grows { length items.old.items ≤ length items.new.items }
+    ensures most { length items.new.items ≤ max (length items.old.items) len }
+    ensures ok { OnOk result (len ≤ length items.new.items) }
+{
+    let more = len.saturating_sub(items.len());
+    items.reserve(more)?;
+    'places: for _ in 0..more {
+        items.push_reserved(None);
+    }
+    Ok(())
+}
+
+/// Empties each place. Linear in them.
+fn clear(items: &mut [Option<u32>])
+    ensures empty { (n : ℕ) → link items.new n ≡ None }
+{
+    'places: for place in items.iter_mut() {
+        *place = None;
+    }
 }

@@ -2,3 +2,4 @@ pub mod Links
 pub mod Cuts
 pub mod Walks
 pub mod Tables
+pub mod Lengthening

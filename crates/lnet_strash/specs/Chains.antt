@@ -1,5 +1,5 @@
 -- A chained hash table over the numbers of nodes. Source: Knuth, The Art of Computer Programming 3, section 6.4, chaining.
-use Rattle.std.specs.Prelude.{◌≡◌, ◌≢◌, ◌⊎◌, ⊤, ℕ, ◌<◌, ◌≤◌, ◌^◌, Bool, List, [], ◌∷◌, length, slice_index_or, Option, None, Some, option_map}
+use Rattle.std.specs.Prelude.{◌≡◌, ◌≢◌, ◌⊎◌, ⊤, ℕ, ◌<◌, ◌≤◌, ◌^◌, Bool, List, [], ◌∷◌, length, slice_index_or, Option, None, Some, option_map, nat_lt, if◌then◌else◌}
 use Rattle.lnet_gates.specs.Gates.{KeyValue}
 use Rattle.lnet_strash.specs.Keys.{chain_of}
 use Rattle.lnet_strash.specs.Standing.{Standing, KeysDiffer, at}
@@ -39,6 +39,10 @@ pub record AreChains (heads next : List (Option ℕ)) (home : ℕ → Option ℕ
 -- the chain in which a number belongs: that of the key under which its node stands
 abbrev pub home_of : ℕ → Standing → ℕ → Option ℕ
 home_of chains t n = option_map (λ e. chain_of chains e.0) (at t n)
+
+-- the same for the numbers below this one alone
+abbrev pub home_below : ℕ → ℕ → Standing → ℕ → Option ℕ
+home_below below chains t n = if nat_lt n below then home_of chains t n else None
 
 -- the chains hold just what stands, and no two nodes stand under one key
 pub record IsTable (heads next : List (Option ℕ)) (t : Standing) : Type 0 where

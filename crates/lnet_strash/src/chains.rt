@@ -1,10 +1,10 @@
 //! A chained hash table over the numbers of nodes: each number has its own place, so that entries come and go without memory.
 
-ghost use Rattle.std.specs.Prelude.{◌≡◌, ◌≢◌, ◌<◌, ◌≤◌, ℕ, Bool, Some, None, length, slice_set, MatchOption, OnOk, OnErr, IsTrue, slice_index_or, max};
+ghost use Rattle.std.specs.Prelude.{◌≡◌, ◌≢◌, ◌<◌, ◌≤◌, ℕ, Bool, Some, None, length, slice_set, MatchOption, OnOk, OnErr, IsTrue, slice_index_or, max, ◌+◌, ◌^◌, [], IfOk};
 ghost use Rattle.lnet_gates.specs.Gates.{KeyValue};
 ghost use Rattle.lnet_strash.specs.Keys as keys;
-ghost use Rattle.lnet_strash.specs.Standing.{at};
-ghost use Rattle.lnet_strash.specs.Chains.{link, home_of, AreChains, IsTable, IsAbsent, StandsUnder, IsLinkAfter};
+ghost use Rattle.lnet_strash.specs.Standing.{at, KeysDiffer};
+ghost use Rattle.lnet_strash.specs.Chains.{link, home_of, home_below, AreChains, IsTable, IsAbsent, StandsUnder, IsLinkAfter};
 
 use crate::hashing::{chain_of, is_same};
 use lnet_gates::Key;
@@ -126,11 +126,13 @@ impl Chains {
 }
 
 /// At least so many places, the further ones empty. Linear in the places to come.
+#[tactic(auto, using(crate::proofs::Lengthening::none_more))]
 fn lengthen<T: Drop>(items: &mut Vec<Option<T>>, len: usize) -> Result<(), AllocError>
     ensures same { (n : ℕ) → slice_index_or items.new.items n None ≡ slice_index_or items.old.items n None }
     ensures grows { length items.old.items ≤ length items.new.items }
     ensures most { length items.new.items ≤ max (length items.old.items) len }
     ensures ok { OnOk result (len ≤ length items.new.items) }
+    ensures refused { OnErr result (items.new.items ≡ items.old.items) }
 {
     let more = len.saturating_sub(items.len());
     items.reserve(more)?;
@@ -146,5 +148,74 @@ fn clear(items: &mut [Option<u32>])
 {
     'places: for place in items.iter_mut() {
         *place = None;
+    }
+}
+
+impl Chains {
+    /// Chains that hold nothing, with room for no number.
+    pub(crate) fn new(alloc: Global) -> Result<Chains, AllocError>
+        ensures table { IfOk result (λ c. IsTable c.heads.items c.next.items c.standing.items) }
+        ensures standing { IfOk result (λ c. c.standing.items ≡ []) }
+    {
+        let mut heads = Vec::new(alloc);
+        heads.push(None)?;
+        Ok(Chains {
+            heads,
+            next: Vec::new(alloc),
+            standing: Vec::new(alloc),
+        })
+    }
+
+    /// Puts the number into its chain, if its node stands under a key. Constant time.
+    fn enter(&mut self, number: u32)
+        requires some { 0 < length self.old.heads.items }
+        requires links { length self.old.standing.items ≤ length self.old.next.items }
+        requires number { number < length self.old.standing.items }
+        requires chains { AreChains self.old.heads.items self.old.next.items (home_below number (length self.old.heads.items) self.old.standing.items) }
+        ensures standing { self.new.standing.items ≡ self.old.standing.items }
+        ensures heads { length self.new.heads.items ≡ length self.old.heads.items }
+        ensures next { length self.new.next.items ≡ length self.old.next.items }
+        ensures chains { AreChains self.new.heads.items self.new.next.items (home_below (number + 1) (length self.old.heads.items) self.old.standing.items) }
+    {
+        if let Some((key, _)) = &self.standing[number as usize] {
+            let chain = chain_of(self.heads.len(), key);
+            self.prepend(number, chain);
+        }
+    }
+
+    /// Makes the chains anew. Linear in the chains and the numbers.
+    fn rebuild(&mut self)
+        requires some { 0 < length self.old.heads.items }
+        requires links { length self.old.standing.items ≤ length self.old.next.items }
+        requires few { length self.old.standing.items < 2 ^ 32 }
+        requires differ { KeysDiffer self.old.standing.items }
+        ensures table { IsTable self.new.heads.items self.new.next.items self.new.standing.items }
+        ensures standing { self.new.standing.items ≡ self.old.standing.items }
+    {
+        clear(&mut self.heads);
+        'numbers: for number in 0..self.standing.len() as u32 {
+            self.enter(number);
+        }
+    }
+
+    /// Gets room for so many numbers, and a chain for each: where there are fewer, twice as many as there were at least. What
+    /// stands stays, whatever it answers. Linear in the room where it grows.
+    pub(crate) fn reserve(&mut self, numbers: u32) -> Result<(), AllocError>
+        requires table { IsTable self.old.heads.items self.old.next.items self.old.standing.items }
+        ensures table { IsTable self.new.heads.items self.new.next.items self.new.standing.items }
+        ensures standing { (n : ℕ) → at self.new.standing.items n ≡ at self.old.standing.items n }
+        ensures grows { length self.old.standing.items ≤ length self.new.standing.items }
+        ensures ok { OnOk result (numbers ≤ length self.new.standing.items) }
+    {
+        let places = self.standing.len();
+        if numbers as usize <= places.min(self.heads.len()) {
+            return Ok(());
+        }
+        let room = (numbers as usize).max((2 * places).min(u32::MAX as usize));
+        lengthen(&mut self.next, room)?;
+        lengthen(&mut self.standing, room)?;
+        lengthen(&mut self.heads, room)?;
+        self.rebuild();
+        Ok(())
     }
 }

@@ -3,3 +3,4 @@ pub mod Cuts
 pub mod Walks
 pub mod Tables
 pub mod Lengthening
+pub mod Rebuilding

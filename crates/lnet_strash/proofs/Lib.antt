@@ -4,3 +4,4 @@ pub mod Walks
 pub mod Tables
 pub mod Lengthening
 pub mod Rebuilding
+pub mod Entries

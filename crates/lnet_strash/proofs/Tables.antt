@@ -15,13 +15,19 @@ at-other t n e m ne = get_or-set_other t n m e None ne
 pub at-same : (t : Standing) (n : ℕ) (e : Option (KeyValue × Bool)) → n < length t → at (set t n e) n ≡ e
 at-same t n e h = get_or-set_same t n e None h
 
-key_or : KeyValue → Option (KeyValue × Bool) → KeyValue
+abbrev key_or : KeyValue → Option (KeyValue × Bool) → KeyValue
 key_or k None = k
 key_or k (Some s) = s.0
 
-key-is : (a : KeyValue) (s u : KeyValue × Bool) → Some s ≡ Some u → s.0 ≡ u.0
-unfolding key_or
+pub key-is : (a : KeyValue) (s u : KeyValue × Bool) → Some s ≡ Some u → s.0 ≡ u.0
 key-is a s u e = ap (key_or a) e
+
+abbrev phase_or : Bool → Option (KeyValue × Bool) → Bool
+phase_or p None = p
+phase_or p (Some s) = s.1
+
+pub place-phase : (s u : KeyValue × Bool) → Some s ≡ Some u → s.1 ≡ u.1
+place-phase s u e = ap (phase_or s.1) e
 
 -- the chain of what stands at n
 pub home-like : (chains : ℕ) (t u : Standing) (n : ℕ) → at t n ≡ at u n → home_of chains t n ≡ home_of chains u n

@@ -3,4 +3,6 @@
 
 mod chains;
 mod hashing;
+mod table;
 
+pub use table::Strash;

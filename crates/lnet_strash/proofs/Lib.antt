@@ -5,3 +5,4 @@ pub mod Tables
 pub mod Lengthening
 pub mod Rebuilding
 pub mod Entries
+pub mod EntryChanges

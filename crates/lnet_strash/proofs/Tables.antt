@@ -1,5 +1,5 @@
 -- The table as one key comes or goes.
-use Rattle.std.proofs.Common.{◌≡◌, ◌≢◌, ℕ, ◌+◌, ◌<◌, ◌≤◌, Bool, List, [], ◌∷◌, length, Option, None, Some, option_map, refl, sym, ap, subst, ◌∙◌, inl, inr, arith, get_or, set, get_or-set_same, get_or-set_other, length-set}
+use Rattle.std.proofs.Common.{◌≡◌, ◌≢◌, ℕ, zero, suc, ◌+◌, ◌<◌, ◌≤◌, Bool, List, [], ◌∷◌, length, Option, None, Some, option_map, refl, sym, ap, subst, ◌∙◌, inl, inr, arith, get_or, set, get_or-set_same, get_or-set_other, length-set}
 use Rattle.std.proofs.lemmas.Bool.Decides.{eqb_tells}
 use Rattle.lnet_gates.specs.Gates.{KeyValue}
 use Rattle.lnet_strash.specs.Keys.{chain_of}
@@ -28,6 +28,12 @@ phase_or p (Some s) = s.1
 
 pub place-phase : (s u : KeyValue × Bool) → Some s ≡ Some u → s.1 ≡ u.1
 place-phase s u e = ap (phase_or s.1) e
+
+-- what stands has its place
+pub place-inside : (t : Standing) (n : ℕ) (e : KeyValue × Bool) → at t n ≡ Some e → n < length t
+place-inside [] n e h = absurd (not-some e None refl h)
+place-inside (s ∷ t) zero e h = omega arith
+place-inside (s ∷ t) (suc n) e h = let less = place-inside t n e h in omega arith
 
 -- the chain of what stands at n
 pub home-like : (chains : ℕ) (t u : Standing) (n : ℕ) → at t n ≡ at u n → home_of chains t n ≡ home_of chains u n

@@ -150,3 +150,7 @@ entry-like t u D E k there back = go (entry u k) refl
     go : (o : Option (Node × Bool)) → entry u k ≡ o → entry t k ≡ entry u k
     go None e = no-entry t k (λ n p h. is-absent u E k e n p (there n p h)) ∙ sym e
     go (Some s) e = entry-at t D k s.0.0 s.1 (back s.0.0 s.1 (at-entry u k s.0 s.1 e)) ∙ sym e
+
+-- a node that stands under no key is the entry of none
+pub entry_free : (t : Standing) (n : Node) → at t n.0 ≡ None → (k : KeyValue) (p : Bool) → entry t k ≡ Some (n, p) → ⊥
+entry_free t n free k p e = not-some (k, p) (at t n.0) free (at-entry t k n p e)

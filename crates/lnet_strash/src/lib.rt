@@ -4,5 +4,7 @@
 mod chains;
 mod hashing;
 mod table;
+#[cfg(test)]
+mod tests;
 
 pub use table::Strash;

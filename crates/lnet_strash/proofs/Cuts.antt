@@ -1,7 +1,7 @@
 -- A number taken out of its chain.
-use Rattle.std.proofs.Common.{◌≡◌, ◌≢◌, ℕ, ◌+◌, ◌<◌, ◌≤◌, List, [], ◌∷◌, length, Option, None, Some, refl, sym, ap, subst, ◌∙◌, inl, inr, arith, get_or, set, get_or-set_same, get_or-set_other, length-set}
+use Rattle.std.proofs.Common.{◌≡◌, ◌≢◌, ℕ, ◌<◌, List, [], ◌∷◌, length, Option, None, Some, refl, sym, ap, subst, ◌∙◌, inl, inr, set, get_or-set_same, get_or-set_other, length-set}
 use Rattle.std.proofs.lemmas.Bool.Decides.{eqb_tells}
-use Rattle.lnet_strash.specs.Chains.{link, Within, Distinct, IsChain, Chain, AreChains, IsLinkAfter}
+use Rattle.lnet_strash.specs.Chains.{link, Within, Distinct, IsChain, Chain, AreChains}
 use Rattle.lnet_strash.proofs.Links.{some-is, not-some, chain-kept, chain-first}
 
 -- ms are the numbers of ns without n, as the links lead through them

@@ -1,9 +1,7 @@
 -- The entry of a key, and what stands at each number.
-use Rattle.std.proofs.Common.{◌≡◌, ◌≢◌, ℕ, zero, suc, ◌+◌, ◌*◌, ◌<◌, ◌≤◌, Bool, true, false, cond, map, List, [], ◌∷◌, length, Option, None, Some, refl, sym, ap, subst, ◌∙◌, inl, inr, arith, set, zero-add, true≢false}
-use Rattle.std.specs.Prelude.{if◌then◌else◌, IsSome, nat_eq}
-use Rattle.std.specs.Bool.{Decides}
+use Rattle.std.proofs.Common.{◌≡◌, ℕ, zero, suc, ◌+◌, ◌<◌, Bool, true, false, map, List, [], ◌∷◌, length, Option, None, Some, refl, sym, ap, subst, ◌∙◌, arith}
+use Rattle.std.specs.Prelude.{if◌then◌else◌}
 use Rattle.std.proofs.lemmas.Slice.Eq.{bytes_eq-Decides}
-use Rattle.std.proofs.lemmas.Bool.Decides.{eqb_tells}
 use Rattle.lnet_gates.specs.declared.signal.Node.{Node}
 use Rattle.lnet_gates.specs.declared.signal.Signal.{Signal}
 use Rattle.lnet_gates.specs.declared.gate.Op.{Op}
@@ -13,9 +11,9 @@ use Rattle.lnet_gates.specs.Operands.{code}
 use Rattle.lnet_gates.specs.Lawful.OperandLemmas.{code-same}
 use Rattle.lnet_strash.specs.Keys.{is_key, words, operation, table}
 use Rattle.lnet_strash.specs.Standing.{Standing, KeysDiffer, at, entry, entry_from}
-use Rattle.lnet_strash.specs.Chains.{IsAbsent, StandsUnder}
+use Rattle.lnet_strash.specs.Chains.{IsAbsent}
 use Rattle.lnet_strash.proofs.Links.{not-some}
-use Rattle.lnet_strash.proofs.Tables.{at-other, at-same, key-is, place-phase}
+use Rattle.lnet_strash.proofs.Tables.{key-is, place-phase}
 
 abbrev head-or : ℕ → List ℕ → ℕ
 head-or d [] = d

@@ -1,14 +1,13 @@
 -- The entries of all keys as one key comes or goes.
-use Rattle.std.proofs.Common.{◌≡◌, ◌≢◌, ℕ, ◌+◌, ◌<◌, Bool, List, length, Option, None, Some, refl, sym, ap, subst, ◌∙◌, inl, inr, arith, set, length-set, true≢false}
+use Rattle.std.proofs.Common.{◌≡◌, ◌≢◌, ℕ, ◌<◌, Bool, length, Option, None, Some, refl, sym, ap, ◌∙◌, inl, inr, set, true≢false}
 use Rattle.std.specs.Prelude.{IsSome}
 use Rattle.std.proofs.lemmas.Bool.Decides.{eqb_tells}
 use Rattle.lnet_gates.specs.declared.signal.Node.{Node}
 use Rattle.lnet_gates.specs.Gates.{KeyValue}
-use Rattle.lnet_strash.specs.Standing.{Standing, KeysDiffer, at, entry, room}
-use Rattle.lnet_strash.specs.Chains.{IsAbsent, StandsUnder}
+use Rattle.lnet_strash.specs.Standing.{Standing, KeysDiffer, at, entry}
 use Rattle.lnet_strash.proofs.Links.{not-some}
 use Rattle.lnet_strash.proofs.Tables.{at-other, at-same, key-is, place-inside}
-use Rattle.lnet_strash.proofs.Entries.{at-entry, entry-at, no-entry, is-absent, entry-like, node-is, phase-is}
+use Rattle.lnet_strash.proofs.Entries.{entry-at, no-entry, entry-like}
 
 -- a node that is the entry of no key stands under none
 pub stands-nowhere : (t : Standing) → KeysDiffer t → (n : Node) → ((k : KeyValue) (p : Bool) → entry t k ≢ Some (n, p)) → at t n.0 ≡ None

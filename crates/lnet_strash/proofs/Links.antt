@@ -1,8 +1,8 @@
 -- Chains of links: what they have in common, and a number put at the head of one.
-use Rattle.std.proofs.Common.{◌≡◌, ◌≢◌, ℕ, ◌+◌, ◌<◌, ◌≤◌, List, [], ◌∷◌, length, Option, None, Some, refl, sym, ap, subst, ◌∙◌, inl, inr, arith, get_or, set, get_or-set_same, get_or-set_other, length-set}
+use Rattle.std.proofs.Common.{◌≡◌, ◌≢◌, ℕ, ◌<◌, ◌≤◌, List, [], ◌∷◌, length, Option, None, Some, sym, ap, subst, ◌∙◌, inl, inr, arith, get_or, set, get_or-set_same, get_or-set_other, length-set}
 use Rattle.std.proofs.lemmas.Bool.Decides.{eqb_tells}
 use Rattle.std.proofs.lemmas.List.{get_or_default}
-use Rattle.lnet_strash.specs.Chains.{link, Within, Distinct, IsChain, Chain, AreChains}
+use Rattle.lnet_strash.specs.Chains.{link, Within, IsChain, Chain, AreChains}
 
 pub some-is : (a b : ℕ) → Some a ≡ Some b → a ≡ b
 some-is a b e = cc
@@ -53,7 +53,6 @@ no-chains heads next home empty idle = record {
 
 -- n, which belonged nowhere, put at the head of chain c
 module _ (heads next : List (Option ℕ)) (home home' : ℕ → Option ℕ) (n c : ℕ) (C : AreChains heads next home) (long : n < length next) (low : c < length heads) (idle : home n ≡ None) (here : home' n ≡ Some c) (other : (m : ℕ) → m ≢ n → home' m ≡ home m) where
-
   -- n stands in no chain
   out : (k : ℕ) (h : k < length heads) → Within n (C.chains k h).members → ⊥
   out k h i = not-some k (home n) idle ((C.chains k h).belongs n i)

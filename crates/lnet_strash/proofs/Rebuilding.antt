@@ -1,10 +1,10 @@
 -- The chains of the numbers below one, as they are made anew, and chains in longer lists.
-use Rattle.std.proofs.Common.{◌≡◌, ◌≢◌, ℕ, ◌+◌, ◌<◌, ◌≤◌, Bool, true, false, List, [], ◌∷◌, length, Option, None, Some, option_map, refl, sym, ap, subst, ◌∙◌, inl, inr, arith, set}
+use Rattle.std.proofs.Common.{◌≡◌, ◌≢◌, ℕ, ◌+◌, ◌<◌, ◌≤◌, Bool, true, false, List, length, Option, None, Some, option_map, sym, ap, ◌∙◌, inl, inr, arith, set}
 use Rattle.std.specs.Prelude.{nat_lt, if◌then◌else◌}
 use Rattle.std.proofs.lemmas.Bool.{lt-ltb, cases_lt}
 use Rattle.lnet_gates.specs.Gates.{KeyValue}
 use Rattle.lnet_strash.specs.Keys.{chain_of}
-use Rattle.lnet_strash.specs.Standing.{Standing, KeysDiffer, at}
+use Rattle.lnet_strash.specs.Standing.{Standing, at}
 use Rattle.lnet_strash.specs.Chains.{link, home_of, home_below, AreChains, IsTable}
 use Rattle.lnet_strash.proofs.Links.{chains-like, put-chains}
 

@@ -1,11 +1,11 @@
 -- The table as one key comes or goes.
-use Rattle.std.proofs.Common.{◌≡◌, ◌≢◌, ℕ, zero, suc, ◌+◌, ◌<◌, ◌≤◌, Bool, List, [], ◌∷◌, length, Option, None, Some, option_map, refl, sym, ap, subst, ◌∙◌, inl, inr, arith, get_or, set, get_or-set_same, get_or-set_other, length-set}
+use Rattle.std.proofs.Common.{◌≡◌, ◌≢◌, ℕ, zero, suc, ◌<◌, ◌≤◌, Bool, List, [], ◌∷◌, length, Option, None, Some, option_map, refl, sym, ap, subst, ◌∙◌, inl, inr, arith, set, get_or-set_same, get_or-set_other, length-set}
 use Rattle.std.proofs.lemmas.Bool.Decides.{eqb_tells}
 use Rattle.lnet_gates.specs.Gates.{KeyValue}
 use Rattle.lnet_strash.specs.Keys.{chain_of}
 use Rattle.lnet_strash.specs.Standing.{Standing, KeysDiffer, at}
-use Rattle.lnet_strash.specs.Chains.{link, home_of, AreChains, IsTable, IsLinkAfter, IsAbsent, StandsUnder}
-use Rattle.lnet_strash.proofs.Links.{some-is, not-some, put-chains}
+use Rattle.lnet_strash.specs.Chains.{link, home_of, AreChains, IsTable, IsAbsent}
+use Rattle.lnet_strash.proofs.Links.{not-some, put-chains}
 use Rattle.lnet_strash.proofs.Cuts.{cut-head, cut-link}
 use Rattle.lnet_strash.proofs.Walks.{home-inside}
 
@@ -74,7 +74,7 @@ module _ (heads next : List (Option ℕ)) (t : Standing) (T : IsTable heads next
         links = (let h = T.links in omega arith);
         few = subst (λ z. z < 4294967296) (sym places) T.few;
         chains = subst (λ z. AreChains (set heads c (Some n)) (set next n (link heads c)) (home_of z t')) (sym long)
-          (put-chains heads next (home_of (length heads) t) (home_of (length heads) t') n c T.chains (let h = T.links in omega arith) low
+            (put-chains heads next (home_of (length heads) t) (home_of (length heads) t') n c T.chains (let h = T.links in omega arith) low
             (ap (option_map (λ (s : KeyValue × Bool). chain_of (length heads) s.0)) free)
             (ap (option_map (λ (s : KeyValue × Bool). chain_of (length heads) s.0)) (at-same t n (Some (k, p)) inside))
             (λ m ne. home-like (length heads) t' t m (at-other t n (Some (k, p)) m ne)));
@@ -112,7 +112,7 @@ module _ (heads next : List (Option ℕ)) (t : Standing) (T : IsTable heads next
         links = subst (λ z. z ≤ length next) (sym places) T.links;
         few = subst (λ z. z < 4294967296) (sym places) T.few;
         chains = subst (λ z. AreChains (set heads c (link next n)) next (home_of z (set t n None))) (sym long)
-          (cut-head heads next (home_of (length heads) t) (home_of (length heads) (set t n None)) n c T.chains low home gone other leads);
+            (cut-head heads next (home_of (length heads) t) (home_of (length heads) (set t n None)) n c T.chains low home gone other leads);
         differ = differ-remove;
       }
 

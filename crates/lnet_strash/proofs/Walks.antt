@@ -1,13 +1,13 @@
 -- A walk along a chain in search of a key.
-use Rattle.std.proofs.Common.{◌≡◌, ◌≢◌, ℕ, zero, suc, ◌+◌, ◌<◌, ◌≤◌, Bool, true, false, ◌||◌, List, [], ◌∷◌, length, Option, None, Some, option_map, refl, sym, ap, subst, ◌∙◌, inl, inr, arith, eqb, true≢false}
+use Rattle.std.proofs.Common.{◌≡◌, ℕ, zero, suc, ◌+◌, ◌<◌, ◌≤◌, Bool, true, false, ◌||◌, List, [], ◌∷◌, length, Option, None, Some, option_map, refl, sym, ap, subst, ◌∙◌, inl, inr, arith, eqb, true≢false}
 use Rattle.std.specs.List.{list_any, IsDistinct, AllByRecursion}
 use Rattle.std.proofs.lemmas.Bool.Decides.{eqb_tells}
 use Rattle.std.proofs.lemmas.Map.Steps.{length-le_from_distinct_below}
 use Rattle.lnet_gates.specs.Gates.{KeyValue}
 use Rattle.lnet_strash.specs.Keys.{chain_of}
-use Rattle.lnet_strash.specs.Standing.{Standing, at}
-use Rattle.lnet_strash.specs.Chains.{link, home_of, Within, Distinct, IsChain, Chain, AreChains, IsTable, IsLinkAfter, IsAbsent, StandsUnder}
-use Rattle.lnet_strash.proofs.Links.{some-is, not-some, chain-first}
+use Rattle.lnet_strash.specs.Standing.{Standing}
+use Rattle.lnet_strash.specs.Chains.{link, home_of, Within, Distinct, IsChain, IsTable, IsLinkAfter, IsAbsent, StandsUnder}
+use Rattle.lnet_strash.proofs.Links.{not-some, chain-first}
 
 -- how many numbers the links lead through, counted up to a bound
 pub steps : ℕ → List (Option ℕ) → Option ℕ → ℕ

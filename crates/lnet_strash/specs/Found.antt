@@ -1,5 +1,5 @@
 -- What a search of the table finds.
-use Rattle.std.specs.Prelude.{ℕ, Option, Some, length}
+use Rattle.std.specs.Prelude.{Some, length}
 use Rattle.lnet_gates.specs.Gates.{KeyValue}
 use Rattle.lnet_strash.specs.declared.chains.Chains.{Chains}
 use Rattle.lnet_strash.specs.declared.chains.Found.{Found}

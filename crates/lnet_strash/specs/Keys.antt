@@ -1,5 +1,5 @@
 -- Keys told apart, and their hash. Source: FxHash, the hash of the Rust compiler's tables.
-use Rattle.std.specs.Prelude.{ℕ, ◌+◌, ◌*◌, ◌/◌, ◌%◌, ◌^◌, Bool, List, [], ◌∷◌, map, fold, nat_eq, bit_xor}
+use Rattle.std.specs.Prelude.{ℕ, ◌*◌, ◌/◌, ◌%◌, ◌^◌, Bool, List, ◌∷◌, map, fold, nat_eq, bit_xor}
 use Rattle.std.specs.Int.{w64, rotate_left}
 use Rattle.std.specs.Cmp.Lexicographic.{pointwise}
 use Rattle.lnet_gates.specs.declared.gate.Op.{Op}

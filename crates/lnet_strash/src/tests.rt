@@ -52,7 +52,10 @@ fn keys_are_told_apart(rt: HostRuntime) -> Result<(), Fail> {
     assert_eq!(rt; table.find(&key(Op::And, &[2, 4])), Some((Node(3), false)));
     assert_eq!(rt; table.find(&key(Op::And, &[2, 5])), Some((Node(4), true)));
     assert_eq!(rt; table.find(&key(Op::Xor, &[2, 4])), Some((Node(8), true)));
-    assert_eq!(rt; table.find(&key(Op::Lut(0x8), &[2, 4])), Some((Node(0), false)));
+    assert_eq!(rt;
+        table.find(&key(Op::Lut(0x8), &[2, 4])),
+        Some((Node(0), false))
+    );
     assert_eq!(rt; table.find(&key(Op::Lut(0x6), &[2, 4])), None);
     assert_eq!(rt; table.find(&key(Op::Maj, &[2, 4])), None);
     assert_eq!(rt; table.find(&key(Op::And, &[3, 4])), None);
@@ -77,7 +80,11 @@ fn a_table_that_grows_keeps_its_keys(rt: HostRuntime) -> Result<(), Fail> {
         }
     }
     'each: for n in 0..100 {
-        let want = if n % 3 == 0 { None } else { Some((Node(n), n % 2 == 1)) };
+        let want = if n % 3 == 0 {
+            None
+        } else {
+            Some((Node(n), n % 2 == 1))
+        };
         assert_eq!(rt; table.find(&key(Op::Maj, &[n, 3, 9])), want, "{n}");
     }
     Ok(())

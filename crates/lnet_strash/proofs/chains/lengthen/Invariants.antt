@@ -1,6 +1,6 @@
 use Rattle.std.proofs.Common.{◌≡◌, ◌≤◌, ◌+◌, ℕ, length, None}
 use Rattle.std.specs.Prelude.{slice_index_or}
-use Rattle.std.specs.Vec.{vec_len, vec_capacity}
+use Rattle.std.specs.Vec.{vec_capacity}
 use Rattle.lnet_strash.proofs.chains.lengthen.Given as goal
 
 abbrev pub invariant-places : goal.invariant-places

@@ -1,7 +1,6 @@
-use Rattle.std.proofs.Common.{arith, ◌≡◌, ◌<◌, ◌∙◌, ℕ, List, Option, None, Some, length, set, sym, ap, subst}
+use Rattle.std.proofs.Common.{arith, ◌≡◌, ◌<◌, ◌∙◌, ℕ, List, Option, None, Some, length, sym, ap, subst}
 use Rattle.lnet_strash.specs.Keys.{chain_of}
 use Rattle.lnet_strash.specs.Standing.{at}
-use Rattle.lnet_strash.specs.Chains.{link, home_below, AreChains}
 use Rattle.lnet_strash.proofs.Links.{get_or-is}
 use Rattle.lnet_strash.proofs.Rebuilding.{enters}
 use Rattle.lnet_strash.proofs.chains.Chains.enter.Goals as goal

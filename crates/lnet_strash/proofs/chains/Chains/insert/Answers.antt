@@ -1,6 +1,5 @@
-use Rattle.std.proofs.Common.{arith, ◌≡◌, ◌<◌, ◌∙◌, ℕ, List, Option, Some, length, set, sym, ap, subst}
+use Rattle.std.proofs.Common.{arith, ◌≡◌, ◌<◌, ◌∙◌, ℕ, List, Option, length, ap, subst}
 use Rattle.lnet_strash.specs.Keys.{chain_of}
-use Rattle.lnet_strash.specs.Chains.{link, IsTable}
 use Rattle.lnet_strash.proofs.Tables.{table-insert}
 use Rattle.lnet_strash.proofs.chains.Chains.insert.Goals as goal
 

@@ -1,4 +1,4 @@
-use Rattle.std.proofs.Common.{arith, ◌≡◌, ◌≤◌, ◌<◌, ℕ, length, refl}
+use Rattle.std.proofs.Common.{arith, ◌≡◌, refl}
 use Rattle.lnet_strash.proofs.Rebuilding.{table-like}
 use Rattle.lnet_strash.proofs.chains.Chains.reserve.Goals as goal
 

@@ -1,6 +1,6 @@
 use Rattle.std.proofs.Common.{arith, ◌<◌, ◌∙◌, length, None, sym, true≢false}
 use Rattle.lnet_strash.proofs.Links.{get_or-is}
-use Rattle.lnet_strash.proofs.Walks.{walk-begins, walk-ends, walk-inside, walk-goes, walk-nears}
+use Rattle.lnet_strash.proofs.Walks.{walk-ends, walk-inside, walk-goes, walk-nears}
 use Rattle.lnet_strash.proofs.chains.Chains.search.Goals as goal
 
 pub stands_under-requires : goal.stands_under-requires

@@ -18,11 +18,11 @@ returns-clause-table c =
     let Leads : Option ℕ → Type 0 = λ b. IsLinkAfter heads next (home_of (length heads) c.args.self.now.standing.items) c.args.chain b (Some c.args.found.number) in
     elim c.match-found.branch [
       | in-Some w ↦
-        let leads = subst Leads w.in-Some.is c.requires.after in
-        subst Remains (sym w.self-is) (subst (λ z. IsTable heads (set next w.in-Some.before z) (set c.args.self.now.standing.items c.args.found.number None)) (sym after)
+          let leads = subst Leads w.in-Some.is c.requires.after in
+          subst Remains (sym w.self-is) (subst (λ z. IsTable heads (set next w.in-Some.before z) (set c.args.self.now.standing.items c.args.found.number None)) (sym after)
           (table-remove-later heads next c.args.self.now.standing.items c.requires.table c.args.found.number c.args.chain c.requires.chain c.requires.home w.in-Some.before leads.0 leads.1))
       | in-None w ↦
-        let leads = subst Leads w.in-None.is c.requires.after in
-        subst Remains (sym w.self-is) (subst (λ z. IsTable (set heads c.args.chain z) next (set c.args.self.now.standing.items c.args.found.number None)) (sym after)
+          let leads = subst Leads w.in-None.is c.requires.after in
+          subst Remains (sym w.self-is) (subst (λ z. IsTable (set heads c.args.chain z) next (set c.args.self.now.standing.items c.args.found.number None)) (sym after)
           (table-remove-first heads next c.args.self.now.standing.items c.requires.table c.args.found.number c.args.chain c.requires.chain c.requires.home leads))
     ]

@@ -1,4 +1,4 @@
-use Rattle.std.proofs.Common.{◌≡◌, ◌<◌, None, Some, length, set, sym, ap, subst, ◌∙◌}
+use Rattle.std.proofs.Common.{◌≡◌, ◌<◌, None, length, sym, ap, subst, ◌∙◌}
 use Rattle.lnet_strash.specs.Standing.{Standing, KeysDiffer, at, entry}
 use Rattle.lnet_strash.proofs.Entries.{is-absent}
 use Rattle.lnet_strash.proofs.EntryChanges.{stands-nowhere, entry-inserted, entries-inserted}

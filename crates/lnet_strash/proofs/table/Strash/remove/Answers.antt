@@ -1,6 +1,6 @@
-use Rattle.std.proofs.Common.{◌≡◌, ◌∙◌, None, Some, length, set, length-set, sym, ap, subst}
+use Rattle.std.proofs.Common.{◌∙◌, None, length, set, length-set, sym, ap, subst}
 use Rattle.std.specs.Prelude.{IsSome}
-use Rattle.lnet_strash.specs.Standing.{Standing, KeysDiffer, at, entry}
+use Rattle.lnet_strash.specs.Standing.{Standing, KeysDiffer, entry}
 use Rattle.lnet_strash.proofs.Entries.{at-entry}
 use Rattle.lnet_strash.proofs.EntryChanges.{entry-present, entry-removed, entries-removed}
 use Rattle.lnet_strash.proofs.table.Strash.remove.Goals as goal

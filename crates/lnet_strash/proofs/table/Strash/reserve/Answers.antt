@@ -1,5 +1,5 @@
-use Rattle.std.proofs.Common.{sym, ap, subst, ◌∙◌}
-use Rattle.lnet_strash.specs.Standing.{KeysDiffer, entry}
+use Rattle.std.proofs.Common.{sym, ap, ◌∙◌}
+use Rattle.lnet_strash.specs.Standing.{entry}
 use Rattle.lnet_strash.proofs.Entries.{entry-like}
 use Rattle.lnet_strash.proofs.table.Strash.reserve.Goals as goal
 

@@ -59,6 +59,7 @@ impl Queue {
         ensures heads { length self.old.heads.items ≤ length self.new.heads.items }
         ensures room { OnOk result (room ≤ length self.new.levels.items) }
         ensures heads_room { OnOk result (room < length self.new.heads.items) }
+        ensures floor { self.new.floor ≡ self.old.floor }
     {
         lengthen(&mut self.heads, room + 1)?;
         lengthen(&mut self.next, room)?;
@@ -92,6 +93,7 @@ impl Queue {
         ensures queue { IsQueue self.new }
         ensures levels { self.new.levels.items ≡ slice_set self.old.levels.items n (Some level) }
         ensures heads { length self.new.heads.items ≡ length self.old.heads.items }
+        ensures floor { self.new.floor ≡ level }
     {
         self.floor = level as usize;
         self.put(n, level);

@@ -1,6 +1,6 @@
 //! A network's store under structural hashing, and its room.
 
-ghost use Rattle.std.specs.Prelude.{◌≡◌, ◌≤◌, ◌<◌, ◌+◌, ◌↔◌, ℕ, Option, None, Some, IfOk, OnOk, OnErr, length, cond, false, MatchOption};
+ghost use Rattle.std.specs.Prelude.{◌≡◌, ◌≤◌, ◌<◌, ◌+◌, ◌↔◌, ℕ, Option, None, Some, IfOk, OnOk, OnErr, length, cond, false, MatchOption, Err};
 ghost use Rattle.lnet_gates.specs.Gates.{GateValue, KeyValue};
 ghost use Rattle.lnet_gates.specs.NormalLaws.{keyed_gate};
 ghost use Rattle.lnet_gates.specs.Plans.{Takes};
@@ -110,4 +110,74 @@ pub(crate) fn grow(
     reserve_all(views, &hashed.store, hashed.room, numbers)?;
     hashed.room = numbers;
     Ok(())
+}
+
+/// Gets memory for one more number, where there is none: for twice as many numbers as before.
+pub(crate) fn make_room(
+    hashed: &mut Hashed,
+    views: &mut Vec<Option<Box<dyn View>>>,
+) -> Result<(), AddError>
+    requires room { HasRoom hashed.old }
+    requires fit { EachSlot (Fits spec_of kept room hashed.old.store.network hashed.old.room) views.old.items }
+    ensures network { hashed.new.store.network ≡ hashed.old.store.network }
+    ensures stamp { hashed.new.store.stamp ≡ hashed.old.store.stamp }
+    ensures room { HasRoom hashed.new }
+    ensures grows { hashed.old.room ≤ hashed.new.room }
+    ensures one_more { OnOk result (live_count hashed.new.store.network < hashed.new.room) }
+    ensures enough { live_count hashed.old.store.network < hashed.old.room → hashed.new.room ≡ hashed.old.room }
+    ensures refused { OnErr result (hashed.new.room ≡ hashed.old.room) }
+    ensures full { (result ≡ Err AddError.Full) ↔ (live_count hashed.old.store.network ≡ NUMBERS) }
+    ensures memory { result ≡ Err AddError.NoMemory → hashed.old.room ≤ live_count hashed.old.store.network }
+    ensures fit { EachSlot (Fits spec_of kept room hashed.new.store.network hashed.new.room) views.new.items }
+    ensures kept { SlotsKept (Kept kind_of spec_of room) views.old.items views.new.items }
+{
+    let live = hashed.store.live_count();
+    if live < hashed.room {
+        return Ok(());
+    }
+    if live == LIMIT {
+        return Err(AddError::Full);
+    }
+    let numbers = (2 * live).min(LIMIT);
+    match grow(hashed, views, numbers) {
+        Ok(()) => Ok(()),
+        Err(_) => Err(AddError::NoMemory),
+    }
+}
+
+/// Adds a gate of the key, of phase false, under the least free number, and tells the views.
+pub(crate) fn add_key(
+    hashed: &mut Hashed,
+    views: &mut Vec<Option<Box<dyn View>>>,
+    visits: &mut Vec<u64>,
+    key: Key,
+) -> Result<Node, AddError>
+    requires room { HasRoom hashed.old }
+    requires live { AreLive hashed.old.store.network (nodes_read key.fanins) }
+    requires arity { Takes key.op (length key.fanins) }
+    requires fit { EachSlot (Fits spec_of kept room hashed.old.store.network hashed.old.room) views.old.items }
+    ensures node { IfOk result (λ n. n.0 ≡ least_free hashed.old.store.network) }
+    ensures network { IfOk result (λ n. hashed.new.store.network ≡ with_entry hashed.old.store.network n.0 (IsGate (keyed_gate key false))) }
+    ensures room { HasRoom hashed.new }
+    ensures grows { hashed.old.room ≤ hashed.new.room }
+    ensures refused { OnErr result ((hashed.new.store.network ≡ hashed.old.store.network) × (hashed.new.store.stamp ≡ hashed.old.store.stamp)) }
+    ensures full { (result ≡ Err AddError.Full) ↔ (live_count hashed.old.store.network ≡ NUMBERS) }
+    ensures memory { result ≡ Err AddError.NoMemory → hashed.old.room ≤ live_count hashed.old.store.network }
+    ensures fit { EachSlot (Fits spec_of kept room hashed.new.store.network hashed.new.room) views.new.items }
+    ensures kept { SlotsKept (Kept kind_of spec_of room) views.old.items views.new.items }
+{
+    make_room(hashed, views)?;
+    let _live = hashed.store.live_count();
+    let gate = Gate {
+        op: key.op,
+        phase: false,
+        fanins: key.fanins,
+    };
+    match hashed.store.add(gate) {
+        Ok(n) => {
+            tell(views, visits, &hashed.store, &Event::Added(n), hashed.room);
+            Ok(n)
+        }
+        Err(error) => Err(error),
+    }
 }

@@ -2,4 +2,5 @@
 #![tactic(auto)]
 
 mod hashed;
+mod placing;
 mod telling;

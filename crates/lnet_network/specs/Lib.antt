@@ -2,3 +2,4 @@ pub mod Strashed
 pub mod Laid
 pub mod Views
 pub mod Rooms
+pub mod Undoing

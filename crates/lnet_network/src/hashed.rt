@@ -6,7 +6,8 @@ ghost use Rattle.lnet_gates.specs.NormalLaws.{keyed_gate};
 ghost use Rattle.lnet_gates.specs.Plans.{Takes};
 ghost use Rattle.lnet_model.specs.Networks.{IsGate, gate_at, live_count};
 ghost use Rattle.lnet_model.specs.Along.{nodes_read};
-ghost use Rattle.lnet_model.specs.Changes.{AreLive, with_entry};
+ghost use Rattle.lnet_model.specs.Changes.{AreLive, IsGateAt, with_entry, without};
+ghost use Rattle.lnet_model.specs.Fanouts.{references};
 ghost use Rattle.lnet_model.specs.Dags.{AreBelow, NUMBERS};
 ghost use Rattle.lnet_network.specs.Strashed.{same_op, same_signals, same_key, key_of, found, least_free, HoldsKey};
 ghost use Rattle.lnet_network.specs.Views.{EachSlot, Fits, Kept, SlotKept, SlotsKept};
@@ -180,4 +181,32 @@ pub(crate) fn add_key(
         }
         Err(error) => Err(error),
     }
+}
+
+/// Removes a gate that nothing names, and tells the views.
+pub(crate) fn remove(
+    hashed: &mut Hashed,
+    views: &mut Vec<Option<Box<dyn View>>>,
+    visits: &mut Vec<u64>,
+    n: Node,
+)
+    requires gate { IsGateAt hashed.old.store.network n.0 }
+    requires free { references hashed.old.store.network n.0 ≡ 0 }
+    requires room { HasRoom hashed.old }
+    requires fit { EachSlot (Fits spec_of kept room hashed.old.store.network hashed.old.room) views.old.items }
+    ensures network { hashed.new.store.network ≡ without hashed.old.store.network n.0 }
+    ensures room { HasRoom hashed.new }
+    ensures same { hashed.new.room ≡ hashed.old.room }
+    ensures fit { EachSlot (Fits spec_of kept room hashed.new.store.network hashed.new.room) views.new.items }
+    ensures kept { SlotsKept (Kept kind_of spec_of room) views.old.items views.new.items }
+{
+    let _live = hashed.store.live_count();
+    let gate = hashed.store.remove(n);
+    tell(
+        views,
+        visits,
+        &hashed.store,
+        &Event::Deleted(n, gate),
+        hashed.room,
+    );
 }

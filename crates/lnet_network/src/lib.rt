@@ -2,5 +2,6 @@
 #![tactic(auto)]
 
 mod hashed;
+mod laying;
 mod placing;
 mod telling;

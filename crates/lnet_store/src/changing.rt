@@ -44,7 +44,7 @@ impl Store {
         ensures was { with_entry self.new.network n.0 (IsGate result) ≡ self.old.network }
         ensures count { live_count self.new.network + 1 ≡ live_count self.old.network }
         ensures stamp { self.new.stamp ≡ raised self.old.stamp }
-        ensures spare { self.old.spare ≤ self.new.spare }
+        ensures spare { self.new.spare ≡ self.old.spare + 1 }
     {
         let old = self.nodes.take_gate(n);
         uncount_all(&mut self.counts, &old.fanins);

@@ -2,7 +2,7 @@
 use Rattle.std.proofs.Common.{◌≡◌, ℕ, ◌⊎◌, Bool, List, [], ◌∷◌, IsSome, refl, sym, ap, subst, inl, inr}
 use Rattle.lnet_gates.specs.declared.signal.Signal.{Signal}
 use Rattle.lnet_gates.specs.declared.normal.Normal.{Normal}
-use Rattle.lnet_gates.specs.declared.normal.Normal.TheVariants.{Gate}
+use Rattle.lnet_gates.specs.declared.normal.Normal.TheVariants.{Is, Gate}
 use Rattle.lnet_gates.specs.Gates.{GateValue, KeyValue}
 use Rattle.lnet_gates.specs.Operands.{IsNamedBy}
 use Rattle.lnet_gates.specs.NormalLaws.{NamesOnly}
@@ -31,6 +31,15 @@ key-live N g form k phase whole live names is m i =
     let here : NamesOnly g.fanins (Gate k phase) = subst (NamesOnly g.fanins) is names in
     elim (here m (read-named m k.fanins i)) [
       | inl named ↦ live m (named-read m g.fanins named)
+      | inr zero ↦ subst (IsLive N) (sym zero) (first-live N whole)
+    ]
+
+-- the signal that a gate's form is reads a live node
+pub form-live : (N : NetworkValue) (g : GateValue) (form : Normal) (s : Signal) → IsWhole N → AreLive N (nodes_read g.fanins) → NamesOnly g.fanins form → form ≡ Is s → IsLive N s.node.0
+form-live N g form s whole live names is =
+    let here : NamesOnly g.fanins (Is s) = subst (NamesOnly g.fanins) is names in
+    elim here [
+      | inl named ↦ live s.node.0 (named-read s.node.0 g.fanins named)
       | inr zero ↦ subst (IsLive N) (sym zero) (first-live N whole)
     ]
 

@@ -1,10 +1,10 @@
 //! A network's store under structural hashing, and its room.
 
-ghost use Rattle.std.specs.Prelude.{◌≡◌, ◌≤◌, ◌<◌, ◌+◌, ◌↔◌, ℕ, Option, None, Some, IfOk, OnOk, OnErr, length, cond, false, MatchOption, Err};
+ghost use Rattle.std.specs.Prelude.{◌≡◌, ◌≤◌, ◌<◌, ◌+◌, ◌↔◌, ℕ, Option, None, Some, IfOk, IfSome, OnOk, OnErr, length, cond, false, MatchOption, Err};
 ghost use Rattle.lnet_gates.specs.Gates.{GateValue, KeyValue};
 ghost use Rattle.lnet_gates.specs.NormalLaws.{keyed_gate};
 ghost use Rattle.lnet_gates.specs.Plans.{Takes};
-ghost use Rattle.lnet_model.specs.Networks.{IsGate, gate_at, live_count};
+ghost use Rattle.lnet_model.specs.Networks.{IsGate, IsLive, gate_at, live_count};
 ghost use Rattle.lnet_model.specs.Along.{nodes_read};
 ghost use Rattle.lnet_model.specs.Changes.{AreLive, IsGateAt, with_entry, without};
 ghost use Rattle.lnet_model.specs.Fanouts.{references};
@@ -78,7 +78,8 @@ fn held(store: &Store, n: u32, key: &Key) -> Option<Signal>
 
 /// The signal of the gate with the key, by a look at each number; `None` exactly where no gate has it.
 pub(crate) fn find(store: &Store, key: &Key) -> Option<Signal>
-    ensures { result ≡ found store.now.network key.now }
+    ensures found { result ≡ found store.now.network key.now }
+    ensures live { IfSome result (λ s. IsLive store.now.network s.node.0) }
 {
     for n in 0..store.numbers() {
         if let Some(signal) = held(store, n, key) {
@@ -159,6 +160,7 @@ pub(crate) fn add_key(
     requires fit { EachSlot (Fits spec_of kept room hashed.old.store.network hashed.old.room) views.old.items }
     ensures node { IfOk result (λ n. n.0 ≡ least_free hashed.old.store.network) }
     ensures network { IfOk result (λ n. hashed.new.store.network ≡ with_entry hashed.old.store.network n.0 (IsGate (keyed_gate key false))) }
+    ensures live { IfOk result (λ n. IsLive hashed.new.store.network n.0) }
     ensures room { HasRoom hashed.new }
     ensures grows { hashed.old.room ≤ hashed.new.room }
     ensures refused { OnErr result ((hashed.new.store.network ≡ hashed.old.store.network) × (hashed.new.store.stamp ≡ hashed.old.store.stamp)) }

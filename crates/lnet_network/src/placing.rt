@@ -4,7 +4,7 @@ ghost use Rattle.std.specs.Prelude.{◌≡◌, ◌≤◌, ◌<◌, ◌↔◌, If
 ghost use Rattle.lnet_gates.specs.NormalLaws.{keyed_gate};
 ghost use Rattle.lnet_gates.specs.Natives.{IsNativeGate};
 ghost use Rattle.lnet_gates.specs.Plans.{Takes};
-ghost use Rattle.lnet_model.specs.Networks.{live_count};
+ghost use Rattle.lnet_model.specs.Networks.{IsLive, live_count};
 ghost use Rattle.lnet_model.specs.Along.{nodes_read};
 ghost use Rattle.lnet_model.specs.Changes.{AreLive};
 ghost use Rattle.lnet_model.specs.Dags.{NUMBERS};
@@ -29,6 +29,7 @@ fn place_key(
     requires arity { Takes key.op (length key.fanins) }
     requires fit { EachSlot (Fits spec_of kept room hashed.old.store.network hashed.old.room) views.old.items }
     ensures placed { IfOk result (λ s. placed_key hashed.old.store.network key phase (found hashed.old.store.network key) ≡ record { network = hashed.new.store.network; signal = s }) }
+    ensures live { IfOk result (λ s. IsLive hashed.new.store.network s.node.0) }
     ensures room { HasRoom hashed.new }
     ensures grows { hashed.old.room ≤ hashed.new.room }
     ensures refused { OnErr result ((hashed.new.store.network ≡ hashed.old.store.network) × (hashed.new.store.stamp ≡ hashed.old.store.stamp)) }
@@ -62,6 +63,7 @@ pub(crate) fn place<G: Gates>(
     requires room { HasRoom hashed.old }
     requires fit { EachSlot (Fits spec_of kept room hashed.old.store.network hashed.old.room) views.old.items }
     ensures placed { IfOk result (λ s. placed G.form hashed.old.store.network gate.now ≡ record { network = hashed.new.store.network; signal = s }) }
+    ensures live { IfOk result (λ s. IsLive hashed.new.store.network s.node.0) }
     ensures room { HasRoom hashed.new }
     ensures grows { hashed.old.room ≤ hashed.new.room }
     ensures refused { OnErr result ((hashed.new.store.network ≡ hashed.old.store.network) × (hashed.new.store.stamp ≡ hashed.old.store.stamp)) }

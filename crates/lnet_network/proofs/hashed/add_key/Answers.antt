@@ -27,3 +27,6 @@ returns-in-Ok-clause-room g c =
       stored = omega arith;
       limit = c.make_room.ensures.room.limit;
     }
+
+pub returns-in-Ok-clause-live : goal.returns-in-Ok-clause-live
+returns-in-Ok-clause-live g c = added-live c.make_room.new.hashed.store.network c.add.new.self.network c.in-Ok.n.0 _ c.in-Ok.ensures.network

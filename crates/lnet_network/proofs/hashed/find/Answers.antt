@@ -15,8 +15,8 @@ loop-n-preserved c =
     let lt = c.loop-n-test.true in
     c.loop-n.invariant ∙ ap (λ ss. slice_get ss 0) (held-passed c.args.store.now.network c.args.key.now c.loop-n.n (numbers_of c.args.store.now.network) (omega arith) c.in_default.ensures)
 
-pub returns : goal.returns
-returns c =
+pub returns-clause-found : goal.returns-clause-found
+returns-clause-found c =
     let e = c.numbers-n-end.ensures.value in
     let past = c.loop-n-test.false in
     sym (c.loop-n.invariant ∙ held-ends c.args.store.now.network c.args.key.now c.loop-n.n (numbers_of c.args.store.now.network) (omega arith))

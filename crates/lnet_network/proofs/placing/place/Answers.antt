@@ -5,7 +5,7 @@ use Rattle.lnet_gates.specs.declared.normal.Normal.TheVariants.{Is, Gate}
 use Rattle.lnet_model.specs.Networks.{live_count}
 use Rattle.lnet_model.specs.Dags.{NUMBERS}
 use Rattle.lnet_network.specs.Strashed.{Placed}
-use Rattle.lnet_network.proofs.Places.{key-live, placed-as}
+use Rattle.lnet_network.proofs.Places.{key-live, form-live, placed-as}
 use Rattle.lnet_network.proofs.placing.place.Goals as goal
 
 pub place_key-requires-clause-live : goal.place_key-requires-clause-live
@@ -39,3 +39,7 @@ pub returns-in-Gate-clause-memory : goal.returns-in-Gate-clause-memory
 returns-in-Gate-clause-memory g c e =
     let same = ap (λ (p : Placed). live_count p.network) (placed-as g.G.Gates.form c.args.hashed.now.store.network c.args.gate.now (Gate c.in-Gate.key c.in-Gate.phase) (sym c.normal.ensures ∙ c.in-Gate.is)) in
     subst (λ n. c.args.hashed.now.room < n) (sym same) (c.place_key.ensures.memory e)
+
+pub returns-in-Is-clause-live : goal.returns-in-Is-clause-live
+returns-in-Is-clause-live g c =
+    form-live c.args.hashed.now.store.network c.args.gate.now (g.G.Gates.form c.args.gate.now) c.in-Is.signal c.live_count-live.ensures.stored.whole c.requires.live (g.met.G.Gates.laws.names c.args.gate.now c.requires.native) (sym c.normal.ensures ∙ c.in-Is.is)

@@ -1,14 +1,66 @@
 //! Laying the steps of recipes, and taking them back where one is refused.
 
-ghost use Rattle.std.specs.Prelude.{◌≡◌, ◌≤◌, reverse};
+ghost use Rattle.std.specs.Prelude.{◌≡◌, ◌≤◌, ◌<◌, ◌+◌, [], ◌∷◌, ◌++◌, ℕ, List, IfOk, OnOk, OnErr, reverse, length, true, Err};
+ghost use Rattle.lnet_tables.specs.declared.step.Step.{Step as StepValue};
+ghost use Rattle.lnet_gates.specs.Natives.{IsNativeGate};
+ghost use Rattle.lnet_gates.specs.Plans.{is_native, op_of};
+ghost use Rattle.lnet_model.specs.Networks.{IsLive, live_count};
+ghost use Rattle.lnet_model.specs.Along.{nodes_read};
+ghost use Rattle.lnet_model.specs.Changes.{AreLive};
+ghost use Rattle.lnet_model.specs.Dags.{NUMBERS};
+ghost use Rattle.lnet_network.specs.Strashed.{placed};
+ghost use Rattle.lnet_network.specs.Laid.{laid_steps, signal_at as signal_of_literal, operands_at, step_gate as gate_of_step};
 ghost use Rattle.lnet_network.specs.Undoing.{undone, IsUndoable};
 ghost use Rattle.lnet_network.specs.Views.{EachSlot, Fits, Kept, SlotsKept};
 ghost use Rattle.lnet_network.specs.Rooms.{HasRoom};
 
 use crate::hashed::{Hashed, remove};
+use crate::placing::place;
 use arrayvec::ArrayVec;
-use lnet_gates::Node;
-use lnet_store::View;
+use lnet_gates::{Gate, Gates, Node, Op, Signal};
+use lnet_store::{AddError, View};
+use lnet_tables::{Lit, Step, StepOp};
+
+/// A recipe under way: the signals of the places so far, and the nodes that were added for them.
+#[derive(Drop)]
+struct Laying {
+    places: ArrayVec<Signal, 256>,
+    added: ArrayVec<Node, 128>,
+}
+
+/// The signal of a literal; that of the constant for a place past the last.
+fn signal_at(places: &[Signal], literal: Lit) -> Signal
+    ensures { result ≡ signal_of_literal places.now literal }
+{
+    let Lit(code) = literal;
+    places
+        .get((code / 2) as usize)
+        .copied()
+        .unwrap_or(Signal::constant(false))
+        .flipped(code % 2 == 1)
+}
+
+/// The gate of a step.
+fn step_gate(places: &[Signal], step: &Step) -> Gate
+    ensures { result ≡ gate_of_step places.now step.now }
+{
+    let mut fanins = ArrayVec::new();
+    fanins.push(signal_at(places, step.a));
+    fanins.push(signal_at(places, step.b));
+    let op = match step.op {
+        StepOp::And => Op::And,
+        StepOp::Xor => Op::Xor,
+        StepOp::Maj => {
+            fanins.push(signal_at(places, step.c));
+            Op::Maj
+        }
+    };
+    Gate {
+        op,
+        phase: false,
+        fanins,
+    }
+}
 
 /// Takes back the nodes that were added, the last one first.
 fn undo(
@@ -29,5 +81,44 @@ fn undo(
     let mut added = added;
     while let Some(n) = added.pop() {
         remove(hashed, views, visits, n);
+    }
+}
+
+/// Places a gate, and notes its node where it is new.
+fn place_noting<G: Gates>(
+    hashed: &mut Hashed,
+    views: &mut Vec<Option<Box<dyn View>>>,
+    visits: &mut Vec<u64>,
+    added: &mut ArrayVec<Node, 128>,
+    gate: &Gate,
+) -> Result<Signal, AddError>
+    requires native { IsNativeGate G.KIND gate.now }
+    requires live { AreLive hashed.old.store.network (nodes_read gate.now.fanins) }
+    requires undoable { IsUndoable (reverse added.old.items) hashed.old.store.network }
+    requires few { length added.old.items < 128 }
+    requires room { HasRoom hashed.old }
+    requires fit { EachSlot (Fits spec_of kept room hashed.old.store.network hashed.old.room) views.old.items }
+    ensures placed { IfOk result (λ s. placed G.form hashed.old.store.network gate.now ≡ record { network = hashed.new.store.network; signal = s }) }
+    ensures live { IfOk result (λ s. IsLive hashed.new.store.network s.node.0) }
+    ensures lives { (m : ℕ) → IsLive hashed.old.store.network m → IsLive hashed.new.store.network m }
+    ensures few { length added.new.items ≤ length added.old.items + 1 }
+    ensures undoable { IsUndoable (reverse added.new.items) hashed.new.store.network }
+    ensures undone { undone (reverse added.new.items) hashed.new.store.network ≡ undone (reverse added.old.items) hashed.old.store.network }
+    ensures room { HasRoom hashed.new }
+    ensures grows { hashed.old.room ≤ hashed.new.room }
+    ensures full { result ≡ Err AddError.Full → NUMBERS < live_count (placed G.form hashed.old.store.network gate.now).network }
+    ensures memory { result ≡ Err AddError.NoMemory → hashed.old.room < live_count (placed G.form hashed.old.store.network gate.now).network }
+    ensures fit { EachSlot (Fits spec_of kept room hashed.new.store.network hashed.new.room) views.new.items }
+    ensures kept { SlotsKept (Kept kind_of spec_of room) views.old.items views.new.items }
+{
+    let before = hashed.store.live_count();
+    match place::<G>(hashed, views, visits, gate) {
+        Ok(signal) => {
+            if before < hashed.store.live_count() {
+                added.push(signal.node);
+            }
+            Ok(signal)
+        }
+        Err(error) => Err(error),
     }
 }

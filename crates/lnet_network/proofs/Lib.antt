@@ -1,3 +1,4 @@
 pub mod Found
 pub mod Adding
 pub mod Places
+pub mod Keys

@@ -2,3 +2,4 @@ pub mod Found
 pub mod Adding
 pub mod Places
 pub mod Keys
+pub mod Strashing

@@ -3,3 +3,5 @@ pub mod Adding
 pub mod Places
 pub mod Keys
 pub mod Strashing
+pub mod Extensions
+pub mod PlacedValues

@@ -1,5 +1,5 @@
 -- Structural hashing stays with each change: with what is placed, with an input, and with what goes.
-use Rattle.std.proofs.Common.{◌≡◌, ℕ, Bool, true, false, Option, None, Some, refl, sym, ap, subst, ◌∙◌, inl, inr}
+use Rattle.std.proofs.Common.{◌≡◌, ℕ, Bool, true, false, length, Option, None, Some, refl, sym, ap, subst, ◌∙◌, inl, inr}
 use Rattle.std.specs.FinMap.{FinMap}
 use Rattle.std.specs.Ordering.{nat_cmp}
 use Rattle.std.proofs.lemmas.Bool.Decides.{eqb_tells}
@@ -14,6 +14,7 @@ use Rattle.lnet_gates.specs.NormalLaws.{NormalLaws, IsNativeForm, keyed_gate, re
 use Rattle.lnet_model.specs.Networks.{NetworkValue, Entry, Input, IsGate, entry_at}
 use Rattle.lnet_model.specs.Changes.{GateAt, with_entry, without}
 use Rattle.lnet_model.proofs.Changes.{with_entry-here, with_entry-apart, without-here, without-apart}
+use Rattle.lnet_store.specs.StoreValues.{with_input, with_new_output, with_output}
 use Rattle.lnet_network.specs.Strashed.{key_of, IsStrashed, found, least_free, Placed, placed, placed_form, placed_key}
 use Rattle.lnet_network.proofs.Keys.{found-none}
 
@@ -32,12 +33,25 @@ pub strashed-same : (kind : Kind) (form : GateValue → Normal) (M N : NetworkVa
 unfolding entry_at
 strashed-same kind form M N same = strashed-fewer kind form M N (λ n g at. ap (λ (nodes : FinMap nat_cmp Entry). entry_at (record N { nodes = nodes }) n) (sym same) ∙ at)
 
--- an input at a number leaves hashing
+-- an input at a number keeps hashing
 pub strashed-input : (kind : Kind) (form : GateValue → Normal) (N : NetworkValue) (n i : ℕ) → IsStrashed kind form N → IsStrashed kind form (with_entry N n (Input i))
 strashed-input kind form N n i = strashed-fewer kind form (with_entry N n (Input i)) N (λ m g at. elim (eqb_tells m n) as (λ _. GateAt N m g) [
   | inl p ↦ (let z : Some (Input i) ≡ Some (IsGate g) = sym (ap (entry_at (with_entry N n (Input i))) p.1 ∙ with_entry-here N n (Input i)) ∙ at in cc)
   | inr p ↦ sym (with_entry-apart N n (Input i) m p.1) ∙ at
 ])
+
+-- so do an input with its place in the list of inputs, and an output
+pub strashed-with_input : (kind : Kind) (form : GateValue → Normal) (N : NetworkValue) (n : ℕ) → IsStrashed kind form N → IsStrashed kind form (with_input N n)
+unfolding with_input with_entry
+strashed-with_input kind form N n h = strashed-same kind form (with_input N n) (with_entry N n (Input (length N.inputs))) refl (strashed-input kind form N n (length N.inputs) h)
+
+pub strashed-with_new_output : (kind : Kind) (form : GateValue → Normal) (N : NetworkValue) (s : Signal) → IsStrashed kind form N → IsStrashed kind form (with_new_output N s)
+unfolding with_new_output
+strashed-with_new_output kind form N s = strashed-same kind form (with_new_output N s) N refl
+
+pub strashed-with_output : (kind : Kind) (form : GateValue → Normal) (N : NetworkValue) (k : ℕ) (s : Signal) → IsStrashed kind form N → IsStrashed kind form (with_output N k s)
+unfolding with_output
+strashed-with_output kind form N k s = strashed-same kind form (with_output N k s) N refl
 
 -- so does what goes
 pub strashed-without : (kind : Kind) (form : GateValue → Normal) (N : NetworkValue) (n : ℕ) → IsStrashed kind form N → IsStrashed kind form (without N n)

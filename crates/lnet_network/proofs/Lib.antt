@@ -5,3 +5,5 @@ pub mod Keys
 pub mod Strashing
 pub mod Extensions
 pub mod PlacedValues
+pub mod RecipeValues
+pub mod LaidValues

@@ -1,11 +1,9 @@
 -- Networks that have all that another has, with its values.
-use Rattle.std.proofs.Common.{◌≡◌, ◌≢◌, ℕ, Bool, true, false, List, [], ◌∷◌, map, length, IsSome, None, Some, refl, sym, ap, subst, ◌∙◌, inl, inr}
+use Rattle.std.proofs.Common.{◌≡◌, ◌≢◌, ℕ, Bool, true, false, List, [], ◌∷◌, map, IsSome, None, refl, sym, ap, subst, ◌∙◌, inl, inr}
 use Rattle.lnet_gates.specs.declared.signal.Signal.{Signal}
-use Rattle.lnet_gates.specs.declared.gate.Kind.{Kind}
 use Rattle.lnet_gates.specs.Gates.{GateValue, flip}
-use Rattle.lnet_gates.specs.Plans.{Takes}
-use Rattle.lnet_model.specs.Networks.{NetworkValue, Constant, IsGate, IsLive, entry_at, fanins_of}
-use Rattle.lnet_model.specs.Along.{at_entry, In, IsWhole, Acyclic, nodes_read}
+use Rattle.lnet_model.specs.Networks.{NetworkValue, IsGate, IsLive, entry_at, fanins_of}
+use Rattle.lnet_model.specs.Along.{at_entry, IsWhole, Acyclic, nodes_read}
 use Rattle.lnet_model.specs.Values.{value_step, node_value, signal_value, network_outputs}
 use Rattle.lnet_model.specs.Changes.{AreLive, with_entry}
 use Rattle.lnet_model.specs.Dags.{IsStored}

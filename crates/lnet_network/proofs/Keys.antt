@@ -1,5 +1,5 @@
 -- Keys that are one, and the gate that is found under a key.
-use Rattle.std.proofs.Common.{◌≡◌, ◌≢◌, ℕ, zero, suc, ◌+◌, ◌<◌, ◌≤◌, Bool, true, false, cond, List, [], ◌∷◌, ◌++◌, Option, None, Some, IsSome, refl, sym, ap, subst, ◌∙◌, inl, inr, arith}
+use Rattle.std.proofs.Common.{◌≡◌, ℕ, zero, suc, ◌+◌, ◌<◌, ◌≤◌, Bool, true, false, cond, List, [], ◌∷◌, ◌++◌, Option, None, Some, IsSome, refl, sym, ap, subst, ◌∙◌, inl, inr, arith}
 use Rattle.std.specs.Prelude.{◌⊎◌, ◌&&◌, slice_get}
 use Rattle.std.proofs.lemmas.Bool.Decides.{eqb_tells}
 use Rattle.lnet_gates.specs.declared.signal.Signal.{Signal}
@@ -133,8 +133,8 @@ none-in N k zero a n g h from to at is = absurd (omega arith)
 none-in N k (suc count) a n g h from to at is = elim (eqb_tells n a) as (λ _. ⊥) [
   | inl p ↦ none-here k a (entry_at N a) g (held_from N k (suc a) count) (sym (ap (entry_at N) p.1) ∙ at) is h
   | inr p ↦
-    let ne = p.1 in
-    none-in N k count (suc a) n g (none-later (at_entry [] (held_by k a) (entry_at N a)) (held_from N k (suc a) count) h) (omega arith) (omega arith) at is
+      let ne = p.1 in
+      none-in N k count (suc a) n g (none-later (at_entry [] (held_by k a) (entry_at N a)) (held_from N k (suc a) count) h) (omega arith) (omega arith) at is
 ]
 
 -- where nothing is found under a key, no gate has it

@@ -1,6 +1,5 @@
 -- What is laid by the steps of a recipe has the recipe's value, the rest keeps its values, and the network stays hashed.
-use Rattle.std.proofs.Common.{◌≡◌, ℕ, zero, suc, ◌+◌, ◌%◌, ◌<◌, ◌≤◌, Bool, true, false, cond, List, [], ◌∷◌, ◌++◌, map, length, get_or, IsSome, refl, sym, ap, subst, ◌∙◌, inl, inr, arith, ◌==◌}
-use Rattle.std.specs.Prelude.{◌⊎◌, IsTrue, All}
+use Rattle.std.proofs.Common.{◌≡◌, ℕ, zero, suc, ◌%◌, ◌≤◌, Bool, true, false, cond, List, [], ◌∷◌, ◌++◌, map, length, get_or, refl, sym, ap, subst, ◌∙◌, inl, inr, arith, ◌==◌}
 use Rattle.std.proofs.lemmas.List.{map-append, length-map}
 use Rattle.lnet_tables.specs.declared.step.Lit.{Lit}
 use Rattle.lnet_tables.specs.declared.step.Step.{Step}
@@ -24,7 +23,7 @@ use Rattle.lnet_gates.specs.Lawful.OperandLemmas.{read-flipped}
 use Rattle.lnet_gates.proofs.RemadeMeans.{native_steps}
 use Rattle.lnet_gates.proofs.PlanLaws.{plan_computes, plan_leaves}
 use Rattle.lnet_model.specs.Networks.{NetworkValue, IsLive, live_count}
-use Rattle.lnet_model.specs.Along.{In, IsWhole, nodes_read}
+use Rattle.lnet_model.specs.Along.{IsWhole, nodes_read}
 use Rattle.lnet_model.specs.Values.{node_value, signal_value}
 use Rattle.lnet_model.specs.Changes.{AreLive}
 use Rattle.lnet_model.specs.Dags.{IsStored, NUMBERS}
@@ -157,9 +156,9 @@ module _ (kind : Kind) (form : GateValue → Normal) (laws : NormalLaws (IsNativ
         extends = extends-twice N p.network (laid_steps form ss p.network (places ++ p.signal ∷ [])).network h.extends rest.extends;
         live = rest.live;
         valued = λ a. rest.valued a ∙ ap (run ss) (
-        map-append (signal_value p.network a) places (p.signal ∷ [])
-        ∙ (λ i. extends-signals N p.network h.extends a places live i ++ (h.valued a ∙ step-value N places a (value-first N a stored.dag.acyclic stored.whole) s.op s.a s.b s.c) i ∷ [])
-        );
+            map-append (signal_value p.network a) places (p.signal ∷ [])
+            ∙ (λ i. extends-signals N p.network h.extends a places live i ++ (h.valued a ∙ step-value N places a (value-first N a stored.dag.acyclic stored.whole) s.op s.a s.b s.c) i ∷ [])
+            );
       }
 
 -- ---- a recipe

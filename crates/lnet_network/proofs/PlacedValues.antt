@@ -1,5 +1,5 @@
 -- What is placed has the gate's value, and the rest keeps its values.
-use Rattle.std.proofs.Common.{◌≡◌, ℕ, ◌+◌, ◌<◌, ◌≤◌, Bool, true, false, List, map, length, IsSome, Option, None, Some, refl, sym, ap, subst, ◌∙◌, inl, inr, arith}
+use Rattle.std.proofs.Common.{◌≡◌, ℕ, ◌<◌, ◌≤◌, Bool, true, false, map, length, IsSome, Option, None, Some, refl, sym, ap, subst, ◌∙◌, inl, inr, arith}
 use Rattle.lnet_gates.specs.declared.signal.Signal.{Signal}
 use Rattle.lnet_gates.specs.declared.gate.Kind.{Kind}
 use Rattle.lnet_gates.specs.declared.normal.Normal.{Normal}
@@ -8,17 +8,17 @@ use Rattle.lnet_gates.specs.Gates.{GateValue, KeyValue, flip, operate, apply}
 use Rattle.lnet_gates.specs.Natives.{IsNativeGate}
 use Rattle.lnet_gates.specs.Plans.{Takes}
 use Rattle.lnet_gates.specs.Operands.{flipped}
-use Rattle.lnet_gates.specs.NormalLaws.{NormalLaws, NamesOnly, IsNativeForm, keyed_gate, gate_reading, form_reading}
+use Rattle.lnet_gates.specs.NormalLaws.{NormalLaws, NamesOnly, IsNativeForm, keyed_gate, form_reading}
 use Rattle.lnet_gates.specs.Lawful.OperandLemmas.{read-flipped}
-use Rattle.lnet_model.specs.Networks.{NetworkValue, IsGate, IsLive, entry_at, live_count}
+use Rattle.lnet_model.specs.Networks.{NetworkValue, IsGate, IsLive, live_count}
 use Rattle.lnet_model.specs.Along.{nodes_read}
 use Rattle.lnet_model.specs.Values.{node_value, signal_value}
-use Rattle.lnet_model.specs.Changes.{AreLive, with_entry}
+use Rattle.lnet_model.specs.Changes.{AreLive}
 use Rattle.lnet_model.specs.Dags.{IsStored, NUMBERS}
 use Rattle.lnet_model.proofs.Values.{gate_value}
 use Rattle.lnet_model.proofs.Changes.{with_entry-here}
-use Rattle.lnet_model.proofs.Stored.{stored-add, count-add}
-use Rattle.lnet_network.specs.Strashed.{key_of, found, least_free, Placed, placed, placed_form, placed_key, newly_placed}
+use Rattle.lnet_model.proofs.Stored.{stored-add}
+use Rattle.lnet_network.specs.Strashed.{found, least_free, Placed, placed, placed_form, placed_key, newly_placed}
 use Rattle.lnet_network.proofs.Adding.{count-added, least-free-is, least-low}
 use Rattle.lnet_network.proofs.Places.{named-read, first-live, key-live}
 use Rattle.lnet_network.proofs.Keys.{IsFound, found-key}

@@ -1,9 +1,9 @@
 -- The function of a recipe, by the operands' values.
-use Rattle.std.proofs.Common.{◌≡◌, ℕ, zero, suc, ◌+◌, ◌*◌, ◌/◌, ◌%◌, ◌^◌, ◌<◌, Bool, true, false, cond, List, [], ◌∷◌, map, length, eqb, refl, sym, ap, subst, ◌∙◌, add-zero, arith}
+use Rattle.std.proofs.Common.{◌≡◌, ℕ, suc, ◌+◌, ◌*◌, ◌/◌, ◌%◌, ◌^◌, ◌<◌, Bool, true, false, cond, List, [], ◌∷◌, map, length, eqb, refl, sym, ap, subst, ◌∙◌, add-zero, arith}
 use Rattle.std.specs.List.{range_with_len}
 use Rattle.std.specs.Int.{bit_at}
 use Rattle.std.proofs.lemmas.Nat.Bits.{bit_at-suc, bit_at_lowest}
-use Rattle.lnet_tables.specs.Bits.{Rows, row, by_rows, is_set}
+use Rattle.lnet_tables.specs.Bits.{Rows, row, is_set}
 use Rattle.lnet_tables.specs.Inverse.{row_inside}
 use Rattle.lnet_tables.specs.Recipes.{RecipeValue, run, lit_value, leaf_values, root_value, sim}
 use Rattle.lnet_gates.specs.declared.gate.Op.{Op}

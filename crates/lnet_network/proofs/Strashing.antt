@@ -10,12 +10,12 @@ use Rattle.lnet_gates.specs.declared.normal.Normal.TheVariants.{Is, Gate}
 use Rattle.lnet_gates.specs.Gates.{GateValue, KeyValue, flip}
 use Rattle.lnet_gates.specs.Natives.{IsNativeGate}
 use Rattle.lnet_gates.specs.NormalForms.{carried}
-use Rattle.lnet_gates.specs.NormalLaws.{NormalLaws, IsNativeForm, keyed_gate, rephased}
+use Rattle.lnet_gates.specs.NormalLaws.{NormalLaws, IsNativeForm, keyed_gate}
 use Rattle.lnet_model.specs.Networks.{NetworkValue, Entry, Input, IsGate, entry_at}
 use Rattle.lnet_model.specs.Changes.{GateAt, with_entry, without}
 use Rattle.lnet_model.proofs.Changes.{with_entry-here, with_entry-apart, without-here, without-apart}
 use Rattle.lnet_store.specs.StoreValues.{with_input, with_new_output, with_output}
-use Rattle.lnet_network.specs.Strashed.{key_of, IsStrashed, found, least_free, Placed, placed, placed_form, placed_key}
+use Rattle.lnet_network.specs.Strashed.{key_of, IsStrashed, found, least_free, placed, placed_form, placed_key}
 use Rattle.lnet_network.proofs.Keys.{found-none}
 
 -- ---- with no new gate

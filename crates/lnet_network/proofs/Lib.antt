@@ -2,3 +2,9 @@ pub mod Found
 pub mod Adding
 pub mod Places
 pub mod Newly
+pub mod Keys
+pub mod Strashing
+pub mod Extensions
+pub mod PlacedValues
+pub mod RecipeValues
+pub mod LaidValues

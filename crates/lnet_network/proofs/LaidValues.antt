@@ -38,7 +38,7 @@ use Rattle.lnet_network.proofs.RecipeValues.{recipe-computes}
 -- ---- the gate of a step
 
 -- the gate of a native step is native
-step-native : (kind : Kind) (places : List Signal) (op : StepOp) (a b c : Lit) → is_native kind (op_of op) ≡ true → IsNativeGate kind (record { op = op_of op; phase = false; fanins = operands_at places op a b c })
+pub step-native : (kind : Kind) (places : List Signal) (op : StepOp) (a b c : Lit) → is_native kind (op_of op) ≡ true → IsNativeGate kind (record { op = op_of op; phase = false; fanins = operands_at places op a b c })
 step-native kind places steps.And a b c h = record { has = h; takes = refl; fits = tt }
 step-native kind places steps.Xor a b c h = record { has = h; takes = refl; fits = tt }
 step-native kind places steps.Maj a b c h = record { has = h; takes = refl; fits = tt }
@@ -57,7 +57,7 @@ module _ (N : NetworkValue) (places : List Signal) (whole : IsWhole N) (live : A
   one-live l m e = subst (IsLive N) (sym e) (literal-live l)
 
   -- and so are the operands of a step
-  operands-live : (op : StepOp) (a b c : Lit) → AreLive N (nodes_read (operands_at places op a b c))
+  pub operands-live : (op : StepOp) (a b c : Lit) → AreLive N (nodes_read (operands_at places op a b c))
   operands-live steps.And a b c m (inl e) = one-live a m e
   operands-live steps.And a b c m (inr (inl e)) = one-live b m e
   operands-live steps.And a b c m (inr (inr i)) = absurd i
@@ -119,17 +119,17 @@ pub record AllStand (N : NetworkValue) (values : (ℕ → Bool) → List Bool) (
   pub live : AreLive l.network (nodes_read l.places)
   pub valued : (a : ℕ → Bool) → map (signal_value l.network a) l.places ≡ values a
 
-live-one_more : (N : NetworkValue) (places : List Signal) (s : Signal) → AreLive N (nodes_read places) → IsLive N s.node.0 → AreLive N (nodes_read (places ++ s ∷ []))
+pub live-one_more : (N : NetworkValue) (places : List Signal) (s : Signal) → AreLive N (nodes_read places) → IsLive N s.node.0 → AreLive N (nodes_read (places ++ s ∷ []))
 live-one_more N [] s live here m (inl e) = subst (IsLive N) (sym e) here
 live-one_more N [] s live here m (inr i) = absurd i
 live-one_more N (p ∷ ps) s live here m (inl e) = live m (inl e)
 live-one_more N (p ∷ ps) s live here m (inr i) = live-one_more N ps s (λ n j. live n (inr j)) here m i
 
 -- the first of native steps is native, and so are the rest
-first-native : (kind : Kind) (s : Step) (ss : List Step) → AllNative kind (s ∷ ss) → is_native kind (op_of s.op) ≡ true
+pub first-native : (kind : Kind) (s : Step) (ss : List Step) → AllNative kind (s ∷ ss) → is_native kind (op_of s.op) ≡ true
 first-native kind s ss h = h 0 s (omega arith)
 
-rest-native : (kind : Kind) (s : Step) (ss : List Step) → AllNative kind (s ∷ ss) → AllNative kind ss
+pub rest-native : (kind : Kind) (s : Step) (ss : List Step) → AllNative kind (s ∷ ss) → AllNative kind ss
 rest-native kind s ss h k d lt = h (suc k) d (omega arith)
 
 module _ (kind : Kind) (form : GateValue → Normal) (laws : NormalLaws (IsNativeGate kind) form) where
@@ -237,3 +237,16 @@ module _ (kind : Kind) (form : GateValue → Normal) (laws : NormalLaws (IsNativ
   pub made-stands : IsStored N → AreLive N (nodes_read operands) → live_count (made kind form N op operands).network ≤ NUMBERS → Stands N (operation_on N op operands) (made kind form N op operands)
   unfolding made
   made-stands = stands-by_test (is_native kind op) refl
+
+-- ---- the steps one by one
+
+pub step-laid : (form : GateValue → Normal) (s : Step) (ss : List Step) (N : NetworkValue) (places : List Signal) (p : Placed) → placed form N (step_gate places s) ≡ p → laid_steps form (s ∷ ss) N places ≡ laid_steps form ss p.network (places ++ p.signal ∷ [])
+unfolding laid_steps
+step-laid form s ss N places p is = ap (λ (q : Placed). laid_steps form ss q.network (places ++ q.signal ∷ [])) is
+
+-- what is placed for the first step isn't more than what is laid
+pub step-within : (form : GateValue → Normal) (s : Step) (ss : List Step) (N : NetworkValue) (places : List Signal) → live_count (placed form N (step_gate places s)).network ≤ live_count (laid_steps form (s ∷ ss) N places).network
+unfolding laid_steps
+step-within form s ss N places =
+    let p : Placed = placed form N (step_gate places s) in
+    laid_steps-grows form ss p.network (places ++ p.signal ∷ [])

@@ -1,6 +1,6 @@
 //! Laying the steps of recipes, and taking them back where one is refused.
 
-ghost use Rattle.std.specs.Prelude.{◌≡◌, ◌≤◌, ◌<◌, ◌+◌, [], ◌∷◌, ◌++◌, ℕ, List, IfOk, OnOk, OnErr, reverse, length, true, Err};
+ghost use Rattle.std.specs.Prelude.{◌≡◌, ◌≤◌, ◌<◌, ◌+◌, [], ◌∷◌, ◌++◌, ℕ, List, IfOk, OnOk, OnErr, IsTrue, reverse, length, true, Err};
 ghost use Rattle.lnet_tables.specs.declared.step.Step.{Step as StepValue};
 ghost use Rattle.lnet_gates.specs.Natives.{IsNativeGate};
 ghost use Rattle.lnet_gates.specs.Plans.{is_native, op_of};
@@ -118,6 +118,45 @@ fn place_noting<G: Gates>(
                 added.push(signal.node);
             }
             Ok(signal)
+        }
+        Err(error) => Err(error),
+    }
+}
+
+/// Lays a step: places its gate, and adds the place.
+fn lay_step<G: Gates>(
+    hashed: &mut Hashed,
+    views: &mut Vec<Option<Box<dyn View>>>,
+    visits: &mut Vec<u64>,
+    laying: &mut Laying,
+    step: &Step,
+) -> Result<(), AddError>
+    requires native { IsTrue (is_native G.KIND (op_of step.now.op)) }
+    requires live { AreLive hashed.old.store.network (nodes_read laying.old.places.items) }
+    requires undoable { IsUndoable (reverse laying.old.added.items) hashed.old.store.network }
+    requires few { length laying.old.added.items < 128 }
+    requires few_places { length laying.old.places.items < 256 }
+    requires room { HasRoom hashed.old }
+    requires fit { EachSlot (Fits spec_of kept room hashed.old.store.network hashed.old.room) views.old.items }
+    ensures laid { OnOk result ((ss : List StepValue) → laid_steps G.form (step.now ∷ ss) hashed.old.store.network laying.old.places.items ≡ laid_steps G.form ss hashed.new.store.network laying.new.places.items) }
+    ensures live { AreLive hashed.new.store.network (nodes_read laying.new.places.items) }
+    ensures few { length laying.new.added.items ≤ length laying.old.added.items + 1 }
+    ensures places { OnOk result (length laying.new.places.items ≡ length laying.old.places.items + 1) }
+    ensures undoable { IsUndoable (reverse laying.new.added.items) hashed.new.store.network }
+    ensures undone { undone (reverse laying.new.added.items) hashed.new.store.network ≡ undone (reverse laying.old.added.items) hashed.old.store.network }
+    ensures room { HasRoom hashed.new }
+    ensures grows { hashed.old.room ≤ hashed.new.room }
+    ensures full { result ≡ Err AddError.Full → (ss : List StepValue) → NUMBERS < live_count (laid_steps G.form (step.now ∷ ss) hashed.old.store.network laying.old.places.items).network }
+    ensures memory { result ≡ Err AddError.NoMemory → (ss : List StepValue) → hashed.old.room < live_count (laid_steps G.form (step.now ∷ ss) hashed.old.store.network laying.old.places.items).network }
+    ensures fit { EachSlot (Fits spec_of kept room hashed.new.store.network hashed.new.room) views.new.items }
+    ensures kept { SlotsKept (Kept kind_of spec_of room) views.old.items views.new.items }
+{
+    let _live = hashed.store.live_count();
+    let gate = step_gate(laying.places.as_slice(), step);
+    match place_noting::<G>(hashed, views, visits, &mut laying.added, &gate) {
+        Ok(signal) => {
+            laying.places.push(signal);
+            Ok(())
         }
         Err(error) => Err(error),
     }

@@ -1,6 +1,9 @@
 -- What is laid by the steps of a recipe has the recipe's value, the rest keeps its values, and the network stays hashed.
-use Rattle.std.proofs.Common.{◌≡◌, ℕ, zero, suc, ◌%◌, ◌≤◌, Bool, true, false, cond, List, [], ◌∷◌, ◌++◌, map, length, get_or, refl, sym, ap, subst, ◌∙◌, inl, inr, arith, ◌==◌}
-use Rattle.std.proofs.lemmas.List.{map-append, length-map}
+use Rattle.std.proofs.Common.{◌≡◌, ℕ, zero, suc, ◌%◌, ◌<◌, ◌+◌, ◌≤◌, Bool, true, false, cond, List, drop, Some, [], ◌∷◌, ◌++◌, map, length, get_or, refl, sym, ap, subst, ◌∙◌, inl, inr, arith, ◌==◌}
+use Rattle.std.specs.Prelude.{slice_get}
+use Rattle.std.proofs.Math.Seq.{drop-cons}
+use Rattle.std.proofs.lemmas.Option.{slice_get_within, get_or_from_slice_get}
+use Rattle.std.proofs.lemmas.List.{map-append, length-map, drop_all}
 use Rattle.lnet_tables.specs.declared.step.Lit.{Lit}
 use Rattle.lnet_tables.specs.declared.step.Step.{Step}
 use Rattle.lnet_tables.specs.declared.step.StepOp.{StepOp}
@@ -250,3 +253,17 @@ unfolding laid_steps
 step-within form s ss N places =
     let p : Placed = placed form N (step_gate places s) in
     laid_steps-grows form ss p.network (places ++ p.signal ∷ [])
+
+-- the steps from i on, where step i is s
+pub steps-from : (ss : List Step) (i : ℕ) (s : Step) → slice_get ss i ≡ Some s → drop i ss ≡ s ∷ drop (i + 1) ss
+steps-from ss i s is =
+    let more : suc i ≡ i + 1 = omega arith in
+    drop-cons ss i s (slice_get_within ss i s is) ∙ ap (λ x. x ∷ drop (suc i) ss) (get_or_from_slice_get ss i s s is) ∙ ap (λ j. s ∷ drop j ss) more
+
+-- no steps are left
+pub laid_none : (form : GateValue → Normal) (ss : List Step) (i : ℕ) (N : NetworkValue) (places : List Signal) → length ss ≤ i → laid_steps form (drop i ss) N places ≡ record { network = N; places = places }
+unfolding laid_steps
+laid_none form ss i N places past = ap (λ rest. laid_steps form rest N places) (drop_all i ss past)
+
+pub laid_done : (form : GateValue → Normal) (N M : NetworkValue) (r : RecipeValue) (leaves places : List Signal) → laid_steps form r.steps N (constant false ∷ leaves) ≡ record { network = M; places = places } → laid form N r leaves ≡ record { network = M; signal = signal_at places r.root }
+laid_done form N M r leaves places is = ap (λ (l : Laid). record { network = l.network; signal = signal_at l.places r.root }) is

@@ -1,15 +1,16 @@
 //! Laying the steps of recipes, and taking them back where one is refused.
 
-ghost use Rattle.std.specs.Prelude.{◌≡◌, ◌≤◌, ◌<◌, ◌+◌, [], ◌∷◌, ◌++◌, ℕ, List, IfOk, OnOk, OnErr, IsTrue, reverse, length, true, Err};
+ghost use Rattle.std.specs.Prelude.{◌≡◌, ◌≤◌, ◌<◌, ◌+◌, [], ◌∷◌, ◌++◌, ℕ, List, IfOk, OnOk, OnErr, IsTrue, reverse, length, false, Err};
 ghost use Rattle.lnet_tables.specs.declared.step.Step.{Step as StepValue};
 ghost use Rattle.lnet_gates.specs.Natives.{IsNativeGate};
-ghost use Rattle.lnet_gates.specs.Plans.{is_native, op_of};
+ghost use Rattle.lnet_gates.specs.Operands.{constant};
+ghost use Rattle.lnet_gates.specs.Plans.{is_native, op_of, AllNative};
 ghost use Rattle.lnet_model.specs.Networks.{IsLive, live_count};
 ghost use Rattle.lnet_model.specs.Along.{nodes_read};
 ghost use Rattle.lnet_model.specs.Changes.{AreLive};
 ghost use Rattle.lnet_model.specs.Dags.{NUMBERS};
 ghost use Rattle.lnet_network.specs.Strashed.{placed};
-ghost use Rattle.lnet_network.specs.Laid.{laid_steps, signal_at as signal_of_literal, operands_at, step_gate as gate_of_step};
+ghost use Rattle.lnet_network.specs.Laid.{laid, laid_steps, signal_at as signal_of_literal, operands_at, step_gate as gate_of_step};
 ghost use Rattle.lnet_network.specs.Undoing.{undone, IsUndoable};
 ghost use Rattle.lnet_network.specs.Views.{EachSlot, Fits, Kept, SlotsKept};
 ghost use Rattle.lnet_network.specs.Rooms.{HasRoom};
@@ -19,7 +20,7 @@ use crate::placing::place;
 use arrayvec::ArrayVec;
 use lnet_gates::{Gate, Gates, Node, Op, Signal};
 use lnet_store::{AddError, View};
-use lnet_tables::{Lit, Step, StepOp};
+use lnet_tables::{Lit, Recipe, Step, StepOp};
 
 /// A recipe under way: the signals of the places so far, and the nodes that were added for them.
 #[derive(Drop)]
@@ -160,4 +161,56 @@ fn lay_step<G: Gates>(
         }
         Err(error) => Err(error),
     }
+}
+
+/// The places before the first step: the constant's signal, and the leaves.
+fn begin(leaves: &[Signal]) -> Laying
+    requires { length leaves.now ≤ 10 }
+    ensures places { result.places.items ≡ constant false ∷ leaves.now }
+    ensures added { result.added.items ≡ [] }
+{
+    let mut places = ArrayVec::new();
+    places.push(Signal::constant(false));
+    for leaf in leaves {
+        places.push(*leaf);
+    }
+    Laying {
+        places,
+        added: ArrayVec::new(),
+    }
+}
+
+/// Lays a recipe of native steps over leaves, at most 10: each step at the gate that has its key, or newly. The answer is
+/// the signal of its root. Refused, it takes back what it added.
+pub(crate) fn lay<G: Gates>(
+    hashed: &mut Hashed,
+    views: &mut Vec<Option<Box<dyn View>>>,
+    visits: &mut Vec<u64>,
+    recipe: &Recipe,
+    leaves: &[Signal],
+) -> Result<Signal, AddError>
+    requires native { AllNative G.KIND recipe.now.steps }
+    requires live { AreLive hashed.old.store.network (nodes_read leaves.now) }
+    requires few { length leaves.now ≤ 10 }
+    requires room { HasRoom hashed.old }
+    requires fit { EachSlot (Fits spec_of kept room hashed.old.store.network hashed.old.room) views.old.items }
+    ensures laid { IfOk result (λ s. laid G.form hashed.old.store.network recipe.now leaves.now ≡ record { network = hashed.new.store.network; signal = s }) }
+    ensures refused { OnErr result (hashed.new.store.network ≡ hashed.old.store.network) }
+    ensures room { HasRoom hashed.new }
+    ensures grows { hashed.old.room ≤ hashed.new.room }
+    ensures full { result ≡ Err AddError.Full → NUMBERS < live_count (laid G.form hashed.old.store.network recipe.now leaves.now).network }
+    ensures memory { result ≡ Err AddError.NoMemory → hashed.old.room < live_count (laid G.form hashed.old.store.network recipe.now leaves.now).network }
+    ensures fit { EachSlot (Fits spec_of kept room hashed.new.store.network hashed.new.room) views.new.items }
+    ensures kept { SlotsKept (Kept kind_of spec_of room) views.old.items views.new.items }
+{
+    let _live = hashed.store.live_count();
+    let mut laying = begin(leaves);
+    for i in 0..recipe.len() {
+        let step = recipe.step(i);
+        if let Err(error) = lay_step::<G>(hashed, views, visits, &mut laying, &step) {
+            undo(hashed, views, visits, laying.added);
+            return Err(error);
+        }
+    }
+    Ok(signal_at(laying.places.as_slice(), recipe.root()))
 }

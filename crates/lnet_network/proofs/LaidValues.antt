@@ -267,3 +267,8 @@ laid_none form ss i N places past = ap (λ rest. laid_steps form rest N places) 
 
 pub laid_done : (form : GateValue → Normal) (N M : NetworkValue) (r : RecipeValue) (leaves places : List Signal) → laid_steps form r.steps N (constant false ∷ leaves) ≡ record { network = M; places = places } → laid form N r leaves ≡ record { network = M; signal = signal_at places r.root }
 laid_done form N M r leaves places is = ap (λ (l : Laid). record { network = l.network; signal = signal_at l.places r.root }) is
+
+-- an operation by its plan
+pub made_by : (kind : Kind) (form : GateValue → Normal) (N : NetworkValue) (op : Op) (operands : List Signal) (p : Plan) → p ≡ plan_of kind op (length operands) → made kind form N op operands ≡ by_plan form N op operands p
+unfolding made
+made_by kind form N op operands p is = ap (by_plan form N op operands) (sym is)

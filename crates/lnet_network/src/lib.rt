@@ -3,5 +3,6 @@
 
 mod hashed;
 mod laying;
+mod making;
 mod placing;
 mod telling;

@@ -8,3 +8,4 @@ pub mod Extensions
 pub mod PlacedValues
 pub mod RecipeValues
 pub mod LaidValues
+pub mod SameNodes

@@ -9,6 +9,7 @@ ghost use Rattle.lnet_model.specs.Along.{nodes_read};
 ghost use Rattle.lnet_model.specs.Changes.{AreLive, IsGateAt, with_entry, without};
 ghost use Rattle.lnet_model.specs.Fanouts.{references};
 ghost use Rattle.lnet_model.specs.Dags.{AreBelow, NUMBERS};
+ghost use Rattle.lnet_store.specs.StoreValues.{with_input};
 ghost use Rattle.lnet_network.specs.Strashed.{same_op, same_signals, same_key, key_of, found, least_free, HoldsKey};
 ghost use Rattle.lnet_network.specs.Views.{EachSlot, Fits, Kept, SlotKept, SlotsKept};
 ghost use Rattle.lnet_network.specs.Rooms.{HasRoom};
@@ -211,4 +212,33 @@ pub(crate) fn remove(
         &Event::Deleted(n, gate),
         hashed.room,
     );
+}
+
+/// Adds an input under the least free number, and tells the views.
+pub(crate) fn add_input(
+    hashed: &mut Hashed,
+    views: &mut Vec<Option<Box<dyn View>>>,
+    visits: &mut Vec<u64>,
+) -> Result<Node, AddError>
+    requires room { HasRoom hashed.old }
+    requires fit { EachSlot (Fits spec_of kept room hashed.old.store.network hashed.old.room) views.old.items }
+    ensures node { IfOk result (λ n. n.0 ≡ least_free hashed.old.store.network) }
+    ensures network { IfOk result (λ n. hashed.new.store.network ≡ with_input hashed.old.store.network n.0) }
+    ensures room { HasRoom hashed.new }
+    ensures grows { hashed.old.room ≤ hashed.new.room }
+    ensures refused { OnErr result ((hashed.new.store.network ≡ hashed.old.store.network) × (hashed.new.store.stamp ≡ hashed.old.store.stamp)) }
+    ensures full { (result ≡ Err AddError.Full) ↔ (live_count hashed.old.store.network ≡ NUMBERS) }
+    ensures memory { result ≡ Err AddError.NoMemory → hashed.old.room ≤ live_count hashed.old.store.network }
+    ensures fit { EachSlot (Fits spec_of kept room hashed.new.store.network hashed.new.room) views.new.items }
+    ensures kept { SlotsKept (Kept kind_of spec_of room) views.old.items views.new.items }
+{
+    make_room(hashed, views)?;
+    let _live = hashed.store.live_count();
+    match hashed.store.add_input() {
+        Ok(n) => {
+            tell(views, visits, &hashed.store, &Event::Added(n), hashed.room);
+            Ok(n)
+        }
+        Err(error) => Err(error),
+    }
 }

@@ -1,0 +1,12 @@
+pub mod Found
+pub mod Adding
+pub mod Places
+pub mod Newly
+pub mod Keys
+pub mod Strashing
+pub mod Extensions
+pub mod PlacedValues
+pub mod RecipeValues
+pub mod LaidValues
+pub mod SameNodes
+pub mod First

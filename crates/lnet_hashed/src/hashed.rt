@@ -1,0 +1,258 @@
+//! A network's store under structural hashing, and its room.
+
+ghost use Rattle.std.specs.Prelude.{◌≡◌, ◌≤◌, ◌<◌, ◌+◌, ◌↔◌, ℕ, Option, None, Some, IfOk, IfSome, OnOk, OnErr, length, cond, false, MatchOption, Err};
+ghost use Rattle.lnet_gates.specs.Gates.{GateValue, KeyValue};
+ghost use Rattle.lnet_gates.specs.NormalLaws.{keyed_gate};
+ghost use Rattle.lnet_gates.specs.Plans.{Takes};
+ghost use Rattle.lnet_model.specs.Networks.{IsGate, IsLive, gate_at, live_count};
+ghost use Rattle.lnet_model.specs.Along.{nodes_read};
+ghost use Rattle.lnet_model.specs.Changes.{AreLive, IsGateAt, with_entry, without};
+ghost use Rattle.lnet_model.specs.Fanouts.{references};
+ghost use Rattle.lnet_model.specs.Dags.{AreBelow, NUMBERS};
+ghost use Rattle.lnet_store.specs.StoreValues.{first_network, with_input};
+ghost use Rattle.lnet_hashed.specs.Strashed.{same_op, same_signals, same_key, key_of, found, least_free, HoldsKey};
+ghost use Rattle.lnet_hashed.specs.Views.{EachSlot, Fits, Kept, SlotKept, SlotsKept};
+ghost use Rattle.lnet_hashed.specs.Rooms.{HasRoom};
+
+use crate::telling::{reserve_all, tell};
+use lnet_gates::{Gate, Key, Node, Op, Signal};
+use lnet_store::{AddError, Event, Store, View};
+use std::alloc::{AllocError, Global};
+
+/// How many numbers a network can have.
+pub(crate) const LIMIT: u32 = 1048576;
+
+/// A store, and for how many numbers, from 0, the store and each of its views have memory.
+///
+/// Each call here keeps `HasRoom`: the network's numbers are below the room, and the store has memory for so many.
+#[derive(Drop)]
+pub struct Hashed {
+    pub store: Store,
+    pub room: u32,
+}
+
+impl Hashed {
+    /// The store of node 0 alone, with room for one number.
+    pub fn new(alloc: Global) -> Result<Hashed, AllocError>
+        ensures network { IfOk result (λ h. h.store.network ≡ first_network) }
+        ensures room { IfOk result HasRoom }
+    {
+        let store = Store::new(alloc)?;
+        let _live = store.live_count();
+        Ok(Hashed { store, room: 1 })
+    }
+}
+
+/// Whether two operations are one.
+fn is_same_op(a: Op, b: Op) -> bool
+    ensures { result ≡ same_op a b }
+{
+    match (a, b) {
+        (Op::And, Op::And) | (Op::Xor, Op::Xor) | (Op::Maj, Op::Maj) => true,
+        (Op::Lut(s), Op::Lut(t)) => s == t,
+        _ => false,
+    }
+}
+
+/// Whether two lists of signals are one.
+fn are_same(a: &[Signal], b: &[Signal]) -> bool
+    ensures { result ≡ same_signals a.now b.now }
+{
+    match a {
+        [] => b.is_empty(),
+        [first, rest @ ..] => match b {
+            [] => false,
+            [other, others @ ..] => first.is_same(*other) && are_same(rest, others),
+        },
+    }
+}
+
+/// Whether a gate has the key.
+fn has_key(gate: &Gate, key: &Key) -> bool
+    ensures { result ≡ same_key key.now (key_of gate.now) }
+{
+    is_same_op(key.op, gate.op) && are_same(key.fanins.as_slice(), gate.fanins.as_slice())
+}
+
+/// The signal of the gate at a number, where it has the key.
+fn held(store: &Store, n: u32, key: &Key) -> Option<Signal>
+    ensures { MatchOption result ((g : GateValue) → gate_at store.now.network n ≡ Some g → same_key key.now (key_of g) ≡ false) (λ s. HoldsKey store.now.network key.now n s) }
+{
+    match store.gate_of(Node(n)) {
+        Some(gate) => if has_key(gate, key) {
+            Some(Signal {
+                node: Node(n),
+                complement: gate.phase,
+            })
+        } else {
+            None
+        },
+        None => None,
+    }
+}
+
+/// The signal of the gate with the key, by a look at each number; `None` exactly where no gate has it.
+pub fn find(store: &Store, key: &Key) -> Option<Signal>
+    ensures found { result ≡ found store.now.network key.now }
+    ensures live { IfSome result (λ s. IsLive store.now.network s.node.0) }
+{
+    for n in 0..store.numbers() {
+        if let Some(signal) = held(store, n, key) {
+            return Some(signal);
+        }
+    }
+    None
+}
+
+/// Gets memory for `numbers` numbers in the store and in each view.
+pub fn reserve(
+    hashed: &mut Hashed,
+    views: &mut Vec<Option<Box<dyn View>>>,
+    numbers: u32,
+) -> Result<(), AllocError>
+    requires room { HasRoom hashed.old }
+    requires more { hashed.old.room ≤ numbers }
+    requires limit { numbers ≤ NUMBERS }
+    requires fit { EachSlot (Fits spec_of kept room hashed.old.store.network hashed.old.room) views.old.items }
+    ensures network { hashed.new.store.network ≡ hashed.old.store.network }
+    ensures stamp { hashed.new.store.stamp ≡ hashed.old.store.stamp }
+    ensures room { HasRoom hashed.new }
+    ensures grown { OnOk result (hashed.new.room ≡ numbers) }
+    ensures refused { OnErr result (hashed.new.room ≡ hashed.old.room) }
+    ensures fit { EachSlot (Fits spec_of kept room hashed.new.store.network hashed.new.room) views.new.items }
+    ensures kept { SlotsKept (Kept kind_of spec_of room) views.old.items views.new.items }
+{
+    let live = hashed.store.live_count();
+    hashed.store.reserve(numbers.saturating_sub(live))?;
+    reserve_all(views, &hashed.store, hashed.room, numbers)?;
+    hashed.room = numbers;
+    Ok(())
+}
+
+/// Gets memory for one more number, where there is none: for twice as many numbers as before.
+pub(crate) fn make_room(
+    hashed: &mut Hashed,
+    views: &mut Vec<Option<Box<dyn View>>>,
+) -> Result<(), AddError>
+    requires room { HasRoom hashed.old }
+    requires fit { EachSlot (Fits spec_of kept room hashed.old.store.network hashed.old.room) views.old.items }
+    ensures network { hashed.new.store.network ≡ hashed.old.store.network }
+    ensures stamp { hashed.new.store.stamp ≡ hashed.old.store.stamp }
+    ensures room { HasRoom hashed.new }
+    ensures grows { hashed.old.room ≤ hashed.new.room }
+    ensures one_more { OnOk result (live_count hashed.new.store.network < hashed.new.room) }
+    ensures enough { live_count hashed.old.store.network < hashed.old.room → hashed.new.room ≡ hashed.old.room }
+    ensures refused { OnErr result (hashed.new.room ≡ hashed.old.room) }
+    ensures full { (result ≡ Err AddError.Full) ↔ (live_count hashed.old.store.network ≡ NUMBERS) }
+    ensures memory { result ≡ Err AddError.NoMemory → hashed.old.room ≤ live_count hashed.old.store.network }
+    ensures fit { EachSlot (Fits spec_of kept room hashed.new.store.network hashed.new.room) views.new.items }
+    ensures kept { SlotsKept (Kept kind_of spec_of room) views.old.items views.new.items }
+{
+    let live = hashed.store.live_count();
+    if live < hashed.room {
+        return Ok(());
+    }
+    if live == LIMIT {
+        return Err(AddError::Full);
+    }
+    let numbers = (2 * live).min(LIMIT);
+    match reserve(hashed, views, numbers) {
+        Ok(()) => Ok(()),
+        Err(_) => Err(AddError::NoMemory),
+    }
+}
+
+/// Adds a gate of the key, of phase false, under the least free number, and tells the views.
+pub(crate) fn add_key(
+    hashed: &mut Hashed,
+    views: &mut Vec<Option<Box<dyn View>>>,
+    visits: &mut Vec<u64>,
+    key: Key,
+) -> Result<Node, AddError>
+    requires room { HasRoom hashed.old }
+    requires live { AreLive hashed.old.store.network (nodes_read key.fanins) }
+    requires arity { Takes key.op (length key.fanins) }
+    requires fit { EachSlot (Fits spec_of kept room hashed.old.store.network hashed.old.room) views.old.items }
+    ensures node { IfOk result (λ n. n.0 ≡ least_free hashed.old.store.network) }
+    ensures network { IfOk result (λ n. hashed.new.store.network ≡ with_entry hashed.old.store.network n.0 (IsGate (keyed_gate key false))) }
+    ensures live { IfOk result (λ n. IsLive hashed.new.store.network n.0) }
+    ensures room { HasRoom hashed.new }
+    ensures grows { hashed.old.room ≤ hashed.new.room }
+    ensures refused { OnErr result ((hashed.new.store.network ≡ hashed.old.store.network) × (hashed.new.store.stamp ≡ hashed.old.store.stamp)) }
+    ensures full { (result ≡ Err AddError.Full) ↔ (live_count hashed.old.store.network ≡ NUMBERS) }
+    ensures memory { result ≡ Err AddError.NoMemory → hashed.old.room ≤ live_count hashed.old.store.network }
+    ensures fit { EachSlot (Fits spec_of kept room hashed.new.store.network hashed.new.room) views.new.items }
+    ensures kept { SlotsKept (Kept kind_of spec_of room) views.old.items views.new.items }
+{
+    make_room(hashed, views)?;
+    let _live = hashed.store.live_count();
+    let gate = Gate {
+        op: key.op,
+        phase: false,
+        fanins: key.fanins,
+    };
+    match hashed.store.add(gate) {
+        Ok(n) => {
+            tell(views, visits, &hashed.store, &Event::Added(n), hashed.room);
+            Ok(n)
+        }
+        Err(error) => Err(error),
+    }
+}
+
+/// Removes a gate that nothing names, and tells the views.
+pub fn remove(
+    hashed: &mut Hashed,
+    views: &mut Vec<Option<Box<dyn View>>>,
+    visits: &mut Vec<u64>,
+    n: Node,
+)
+    requires gate { IsGateAt hashed.old.store.network n.0 }
+    requires free { references hashed.old.store.network n.0 ≡ 0 }
+    requires room { HasRoom hashed.old }
+    requires fit { EachSlot (Fits spec_of kept room hashed.old.store.network hashed.old.room) views.old.items }
+    ensures network { hashed.new.store.network ≡ without hashed.old.store.network n.0 }
+    ensures room { HasRoom hashed.new }
+    ensures same { hashed.new.room ≡ hashed.old.room }
+    ensures fit { EachSlot (Fits spec_of kept room hashed.new.store.network hashed.new.room) views.new.items }
+    ensures kept { SlotsKept (Kept kind_of spec_of room) views.old.items views.new.items }
+{
+    let _live = hashed.store.live_count();
+    let gate = hashed.store.remove(n);
+    tell(
+        views,
+        visits,
+        &hashed.store,
+        &Event::Deleted(n, gate),
+        hashed.room,
+    );
+}
+
+/// Adds an input under the least free number, and tells the views.
+pub fn add_input(
+    hashed: &mut Hashed,
+    views: &mut Vec<Option<Box<dyn View>>>,
+    visits: &mut Vec<u64>,
+) -> Result<Node, AddError>
+    requires room { HasRoom hashed.old }
+    requires fit { EachSlot (Fits spec_of kept room hashed.old.store.network hashed.old.room) views.old.items }
+    ensures node { IfOk result (λ n. n.0 ≡ least_free hashed.old.store.network) }
+    ensures network { IfOk result (λ n. hashed.new.store.network ≡ with_input hashed.old.store.network n.0) }
+    ensures room { HasRoom hashed.new }
+    ensures grows { hashed.old.room ≤ hashed.new.room }
+    ensures refused { OnErr result ((hashed.new.store.network ≡ hashed.old.store.network) × (hashed.new.store.stamp ≡ hashed.old.store.stamp)) }
+    ensures full { (result ≡ Err AddError.Full) ↔ (live_count hashed.old.store.network ≡ NUMBERS) }
+    ensures memory { result ≡ Err AddError.NoMemory → hashed.old.room ≤ live_count hashed.old.store.network }
+    ensures fit { EachSlot (Fits spec_of kept room hashed.new.store.network hashed.new.room) views.new.items }
+    ensures kept { SlotsKept (Kept kind_of spec_of room) views.old.items views.new.items }
+{
+    make_room(hashed, views)?;
+    let _live = hashed.store.live_count();
+    match hashed.store.add_input() {
+        Ok(n) => {
+            tell(views, visits, &hashed.store, &Event::Added(n), hashed.room);
+            Ok(n)
+        }
+        Err(error) => Err(error),
+    }
+}

@@ -1,0 +1,65 @@
+//! Making operations of signals, by the plan of the kind.
+
+ghost use Rattle.std.specs.Prelude.{◌≡◌, ◌≤◌, ◌<◌, IfOk, OnErr, length, false, Err};
+ghost use Rattle.lnet_gates.specs.Plans.{Takes};
+ghost use Rattle.lnet_model.specs.Networks.{live_count};
+ghost use Rattle.lnet_model.specs.Along.{nodes_read};
+ghost use Rattle.lnet_model.specs.Changes.{AreLive};
+ghost use Rattle.lnet_model.specs.Dags.{NUMBERS};
+ghost use Rattle.lnet_hashed.specs.Laid.{made};
+ghost use Rattle.lnet_hashed.specs.Views.{EachSlot, Fits, Kept, SlotsKept};
+ghost use Rattle.lnet_hashed.specs.Rooms.{HasRoom};
+
+use crate::hashed::Hashed;
+use crate::laying::lay;
+use crate::placing::place;
+use arrayvec::ArrayVec;
+use lnet_gates::{Gate, Gates, Op, Plan, Signal};
+use lnet_store::{AddError, View};
+
+/// The gate of an operation on operands, at most 6.
+fn gate_on(op: Op, operands: &[Signal]) -> Gate
+    requires { length operands.now ≤ 6 }
+    ensures { result ≡ record { op = op; phase = false; fanins = operands.now } }
+{
+    let mut fanins = ArrayVec::new();
+    for operand in operands {
+        fanins.push(*operand);
+    }
+    Gate {
+        op,
+        phase: false,
+        fanins,
+    }
+}
+
+/// The signal of an operation on operands, as many as it takes: by a gate where the kind has the operation, and else by the
+/// steps of its plan. Refused, it takes back what it added.
+pub fn make<G: Gates>(
+    hashed: &mut Hashed,
+    views: &mut Vec<Option<Box<dyn View>>>,
+    visits: &mut Vec<u64>,
+    op: Op,
+    operands: &[Signal],
+) -> Result<Signal, AddError>
+    requires arity { Takes op (length operands.now) }
+    requires live { AreLive hashed.old.store.network (nodes_read operands.now) }
+    requires room { HasRoom hashed.old }
+    requires fit { EachSlot (Fits spec_of kept room hashed.old.store.network hashed.old.room) views.old.items }
+    ensures made { IfOk result (λ s. made G.KIND G.form hashed.old.store.network op operands.now ≡ record { network = hashed.new.store.network; signal = s }) }
+    ensures refused { OnErr result (hashed.new.store.network ≡ hashed.old.store.network) }
+    ensures room { HasRoom hashed.new }
+    ensures grows { hashed.old.room ≤ hashed.new.room }
+    ensures full { result ≡ Err AddError.Full → NUMBERS < live_count (made G.KIND G.form hashed.old.store.network op operands.now).network }
+    ensures memory { result ≡ Err AddError.NoMemory → hashed.old.room < live_count (made G.KIND G.form hashed.old.store.network op operands.now).network }
+    ensures fit { EachSlot (Fits spec_of kept room hashed.new.store.network hashed.new.room) views.new.items }
+    ensures kept { SlotsKept (Kept kind_of spec_of room) views.old.items views.new.items }
+{
+    match G::plan(&op, operands.len() as u8) {
+        Plan::Native => {
+            let gate = gate_on(op, operands);
+            place::<G>(hashed, views, visits, &gate)
+        }
+        Plan::Steps(recipe) => lay::<G>(hashed, views, visits, &recipe, operands),
+    }
+}

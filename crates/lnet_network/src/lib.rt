@@ -1,8 +1,0 @@
-//! Networks of four kinds.
-#![tactic(auto)]
-
-mod hashed;
-mod laying;
-mod making;
-mod placing;
-mod telling;

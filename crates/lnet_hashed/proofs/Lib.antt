@@ -10,3 +10,7 @@ pub mod RecipeValues
 pub mod LaidValues
 pub mod SameNodes
 pub mod First
+pub mod Reached
+pub mod Greatest
+pub mod KeptViews
+pub mod SweptValues

@@ -3,3 +3,4 @@ pub mod Laid
 pub mod Views
 pub mod Rooms
 pub mod Undoing
+pub mod Swept

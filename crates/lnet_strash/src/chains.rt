@@ -12,8 +12,7 @@ use std::alloc::{AllocError, Global};
 
 /// The chains, and what stands at each number.
 ///
-/// A chain has the numbers whose keys have its number as their hash. `heads` has the first number of each chain, and `next`
-/// for each number the one after it in its chain.
+/// A key's hash gives its chain, and a chain has the numbers whose nodes stand under its keys. What this keeps is `IsTable`.
 #[derive(Drop)]
 pub(crate) struct Chains {
     /// By chain its first number.

@@ -2,10 +2,14 @@
 
 ghost use Rattle.std.specs.Prelude.{◌≡◌};
 ghost use Rattle.lnet_edge.specs.Circuits.{IsInOrder};
-ghost use Rattle.lnet_edge.specs.CircuitLists.{equation_views};
+ghost use Rattle.lnet_edge.specs.CircuitLists.{equation_views, listed_circuit};
+ghost use Rattle.lnet_edge.specs.Wires.{IsCircuit};
 
+use crate::cover::CoverRows;
+use crate::fault::Fault;
+use crate::name::Name;
 use smallvec::SmallVec;
-use std::alloc::Global;
+use std::alloc::{AllocError, Global};
 use std::marker::Model;
 
 /// A wire by its number. Wire 0 is the constant false.
@@ -21,11 +25,22 @@ pub struct WireRef {
     pub complement: bool,
 }
 
-/// How an equation's value comes from the values of its operands.
-#[derive(Clone, Copy, Debug, PartialEq, Eq)]
+/// How an equation's value comes from the values of its operands. The flag says that the result is complemented.
+#[derive(Drop)]
 pub enum Rule {
-    /// True where all operands are true; complemented where the flag is set.
+    /// True where all operands are true. It takes one operand or more.
     And(bool),
+    /// True where some operand is true. It takes one operand or more.
+    Or(bool),
+    /// True where an odd number of operands is true. It takes one operand or more.
+    Xor(bool),
+    /// True where two or three operands are true. It takes three operands.
+    Maj(bool),
+    /// The bit of the table at the row whose bit `i` is operand `i`; bit 0 is the least. It takes at most six operands.
+    Lut(u64),
+    /// The union of the rows, complemented where their value is false, and false without rows. It takes an operand for
+    /// each byte of each row.
+    Cover(CoverRows),
 }
 
 /// An equation: a wire, and what drives it.
@@ -40,24 +55,45 @@ pub struct Equation {
 }
 
 /// An input of a circuit.
-#[derive(Clone, Copy, Debug, PartialEq, Eq)]
+#[derive(Drop)]
 pub struct InputPort {
     /// The wire that the input drives.
     pub wire: Wire,
+    /// The name that the file gives it, if any.
+    pub name: Option<Name>,
 }
 
 /// An output of a circuit.
-#[derive(Clone, Copy, Debug, PartialEq, Eq)]
+#[derive(Drop)]
 pub struct OutputPort {
     /// The wire, or its complement, that the output shows.
     pub source: WireRef,
+    /// The name that the file gives it, if any.
+    pub name: Option<Name>,
+}
+
+/// Why lists are no circuit.
+#[derive(Clone, Copy, Debug, PartialEq, Eq)]
+pub enum CircuitError {
+    /// A rule of circuits is broken: `Undriven`, `Twice` or `Cycle`, the first in this order.
+    Fault(Fault),
+    /// Memory ran out.
+    NoMemory,
+}
+
+impl From<AllocError> for CircuitError {
+    ghost from_gives = { λ _ e. e ≡ NoMemory };
+
+    fn from(_: AllocError) -> CircuitError {
+        CircuitError::NoMemory
+    }
 }
 
 /// A circuit: its inputs and outputs in order, and the equations between them.
 ///
-/// Its wires are numbered from 1 without a gap, first the inputs in order and then each equation after those it uses.
-/// Each equation is an And of two operands. There are at most 65,535 inputs and equations together, and at most 65,535
-/// outputs. A contract sees the three lists.
+/// Each wire is driven once, by the constant (wire 0), an input or an equation. Each wire that an output or an operand
+/// names is driven, and no wire depends on itself. Each rule has as many operands as it takes. There are at most
+/// 100,000,000 outputs, and fewer than 4,294,967,296 inputs and equations together. A contract sees the three lists.
 #[derive(Drop)]
 pub struct Circuit {
     inputs: Vec<InputPort>,
@@ -66,25 +102,27 @@ pub struct Circuit {
 }
 
 impl Model for Circuit {
-    ghost use Rattle.lnet_edge.specs.Circuits.{CircuitValue, IsInOrder};
-    ghost use Rattle.lnet_edge.specs.CircuitLists.{equation_views};
+    ghost use Rattle.lnet_edge.specs.Circuits.{CircuitValue};
+    ghost use Rattle.lnet_edge.specs.Wires.{IsCircuit};
+    ghost use Rattle.lnet_edge.specs.CircuitLists.{listed_circuit};
 
     ghost Value = { CircuitValue };
 
-    ghost view = { λ c. record { inputs = c.inputs.items; outputs = c.outputs.items; equations = equation_views c.equations.items } };
+    ghost view = { λ c. listed_circuit c.inputs.items c.outputs.items c.equations.items };
 
-    ghost invariant = { λ c. IsInOrder (record { inputs = c.inputs.items; outputs = c.outputs.items; equations = equation_views c.equations.items }) };
+    ghost invariant = { λ c. IsCircuit (listed_circuit c.inputs.items c.outputs.items c.equations.items) };
 }
 
 impl Circuit {
-    /// The circuit of these ports and equations, which are numbered in order. It takes no memory.
+    /// The circuit of these ports and equations, which are numbered in order: from 1 without a gap, first the inputs and
+    /// then each equation, an And of two operands, after those it uses; none has a name. It takes no memory.
     pub fn in_order(
         inputs: Vec<InputPort>,
         outputs: Vec<OutputPort>,
         equations: Vec<Equation>,
     ) -> Circuit
-        requires { IsInOrder (record { inputs = inputs.items; outputs = outputs.items; equations = equation_views equations.items }) }
-        ensures { result ≡ record { inputs = inputs.items; outputs = outputs.items; equations = equation_views equations.items } }
+        requires { IsInOrder (listed_circuit inputs.items outputs.items equations.items) }
+        ensures { result ≡ listed_circuit inputs.items outputs.items equations.items }
     {
         Circuit {
             inputs,
@@ -107,11 +145,11 @@ impl Circuit {
         &self.outputs
     }
 
-    /// The equations, each after those it uses.
+    /// The equations in order.
     pub fn equations(&self) -> &[Equation]
         ensures value { equation_views result.now ≡ self.now.equations }
         // What the type keeps of the whole circuit.
-        ensures in_order { IsInOrder self.now }
+        ensures circuit { IsCircuit self.now }
     {
         &self.equations
     }

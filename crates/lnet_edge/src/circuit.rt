@@ -82,6 +82,9 @@ pub enum CircuitError {
 }
 
 impl From<AllocError> for CircuitError {
+    ghost use Rattle.std.specs.Prelude.{◌≡◌};
+    ghost use Rattle.lnet_edge.specs.declared.circuit.CircuitError.TheVariants.{NoMemory};
+
     ghost from_gives = { λ _ e. e ≡ NoMemory };
 
     fn from(_: AllocError) -> CircuitError {

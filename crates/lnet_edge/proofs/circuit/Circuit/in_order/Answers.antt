@@ -1,0 +1,6 @@
+use Rattle.lnet_edge.specs.CircuitLists.{listed_circuit}
+use Rattle.lnet_edge.proofs.InOrder.{IsCircuit-in_order}
+use Rattle.lnet_edge.proofs.circuit.Circuit.in_order.Goals as goal
+
+pub invariant_of-result : goal.invariant_of-result
+invariant_of-result c = IsCircuit-in_order (listed_circuit c.args.inputs.items c.args.outputs.items c.args.equations.items) c.requires

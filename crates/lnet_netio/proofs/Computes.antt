@@ -108,7 +108,7 @@ wire_values c a ord (suc n) w deep top = any_wire c a ord (suc n) w top (λ j e 
 
 outputs_agree : (c : CircuitValue) (a : ℕ → Bool) → IsInOrder c → (i : ℕ) (ps : List OutputPort) → AllFrom (IsOutputOf (length c.inputs + length c.equations)) i ps → map (signal_value (listing c) a) (map port_signal ps) ≡ map (λ (p : OutputPort). ref_value c a p.source) ps
 outputs_agree c a ord i [] at = refl
-outputs_agree c a ord i (p ∷ ps) at = λ k. sym (operand c a (suc (length c.equations)) p.source (wire_values c a ord (length c.equations) p.source.wire.0 at.0 at.0)) k ∷ outputs_agree c a ord (i + 1) ps at.1 k
+outputs_agree c a ord i (p ∷ ps) at = λ k. sym (operand c a (suc (length c.equations)) p.source (wire_values c a ord (length c.equations) p.source.wire.0 at.0.0 at.0.0)) k ∷ outputs_agree c a ord (i + 1) ps at.1 k
 
 listing-outputs : (c : CircuitValue) (a : ℕ → Bool) → IsInOrder c → network_outputs (listing c) a ≡ circuit_outputs c a
 unfolding network_outputs circuit_outputs listed
@@ -125,9 +125,9 @@ entries-built c ord =
 
 pub exported-built : (c : CircuitValue) → IsInOrder c → exported (built c) ≡ c
 exported-built c ord = λ i. record {
-  inputs = ports-again c.inputs i;
-  outputs = outputs-again c.outputs i;
-  equations = (ap (flat_map entry_equation) (entries-built c ord) ∙ equations-again c) i;
+  inputs = ports-again 1 c.inputs ord.inputs i;
+  outputs = outputs-again _ 0 c.outputs ord.outputs i;
+  equations = (ap (flat_map entry_equation) (entries-built c ord) ∙ equations-again c ord) i;
 }
 
 -- ---- what a listed network is exported to builds it again, and computes what it computes

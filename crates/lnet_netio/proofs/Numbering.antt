@@ -24,7 +24,7 @@ signals_of c = map port_signal c.outputs
 
 inputs-numbered : (k : ℕ) (ps : List InputPort) → AllFrom IsInputAt (k + 1) ps → input_nodes k ps ≡ numbered (k + 1) (input_entries k (length ps))
 inputs-numbered k [] at = refl
-inputs-numbered k (p ∷ ps) at = λ i. (at.0 i, Input k) ∷ inputs-numbered (k + 1) ps at.1 i
+inputs-numbered k (p ∷ ps) at = λ i. (at.0.0 i, Input k) ∷ inputs-numbered (k + 1) ps at.1 i
 
 gates-numbered : (n : ℕ) (es : List EquationValue) → AllFrom IsGateAt n es → map gate_node es ≡ numbered n (map IsGate (map equation_gate es))
 gates-numbered n [] at = refl
@@ -44,7 +44,7 @@ nodes-numbered c ord =
 
 pub input-numbers : (k : ℕ) (ps : List InputPort) → AllFrom IsInputAt k ps → map (λ (p : InputPort). p.wire.0) ps ≡ numbers_from k (length ps)
 input-numbers k [] at = refl
-input-numbers k (p ∷ ps) at = λ i. at.0 i ∷ input-numbers (k + 1) ps at.1 i
+input-numbers k (p ∷ ps) at = λ i. at.0.0 i ∷ input-numbers (k + 1) ps at.1 i
 
 pub built-listed : (c : CircuitValue) → IsInOrder c → built c ≡ listed (length c.inputs) (gates_of c) (signals_of c)
 unfolding listed
@@ -61,7 +61,7 @@ ands-listed n (e ∷ es) ((x, y, is, low, low2), rest) = ((signal_of x, signal_o
 
 outputs-up_to : (top i : ℕ) (ps : List OutputPort) → AllFrom (IsOutputOf top) i ps → AreUpTo top (map port_signal ps)
 outputs-up_to top i [] at = tt
-outputs-up_to top i (p ∷ ps) at = (at.0, outputs-up_to top (i + 1) ps at.1)
+outputs-up_to top i (p ∷ ps) at = (at.0.0, outputs-up_to top (i + 1) ps at.1)
 
 pub listed-fits : (c : CircuitValue) → IsInOrder c → IsListed (length c.inputs) (gates_of c) (signals_of c)
 listed-fits c ord =

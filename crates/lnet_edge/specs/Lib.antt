@@ -7,5 +7,7 @@ pub mod Covers
 pub mod Circuits
 pub mod CircuitLists
 pub mod Wires
+pub mod Drivers
+pub mod Searches
 pub mod Values
 pub mod Names

@@ -1,7 +1,7 @@
 -- A depth-first search along operands: each step keeps what the search keeps.
-use Rattle.std.proofs.Common.{◌≡◌, ◌≢◌, ℕ, zero, suc, ◌+◌, ◌-◌, ◌<◌, ◌≤◌, ◌⊎◌, false, true, List, [], ◌∷◌, ◌++◌, length, map, get_or, set, take, Option, Some, None, nat_eq, refl, sym, ap, subst, ◌∙◌, inl, inr, arith, Contains, sum_by, length-append}
+use Rattle.std.proofs.Common.{◌≡◌, ◌≢◌, ℕ, zero, suc, ◌+◌, ◌-◌, ◌<◌, ◌≤◌, ◌⊎◌, Bool, false, true, replicate, Result, Ok, Err, IfOk, List, [], ◌∷◌, ◌++◌, length, map, get_or, set, take, Option, Some, None, nat_eq, refl, sym, ap, subst, ◌∙◌, inl, inr, arith, Contains, sum_by, length-append}
 use Rattle.std.proofs.lemmas.Bool.Decides.{eqb_tells}
-use Rattle.std.proofs.lemmas.List.{get_or_append_left, get_or-set_same, get_or-set_other, get_or-take, length-take-le, length-set, length-map}
+use Rattle.std.proofs.lemmas.List.{get_or_append_left, get_or-set_same, get_or-set_other, get_or-take, length-take-le, length-set, length-map, length-replicate}
 use Rattle.std.proofs.lemmas.List.Sums.{sum_by-set, get_or-le-sum_by}
 use Rattle.std.proofs.lemmas.Grind.{get_or_default_zero}
 use Rattle.std.proofs.Math.Seq.{get_or-append_seam}
@@ -446,3 +446,32 @@ step_found m es ps top e left wire next found state knows low (l, at, within) is
     by_state Done p = (open_before ps top left l at (is l at) ne, λ k k_low there2.
       let same : k ≡ next = own_targets m (equation_views es) (subst (KnowsEquations m false (equation_views es)) (sym n) knows) k next k_low low2 (there2 ∙ sym target) in
       ap (progress_at ps) same ∙ sym p)
+
+-- ---- whole searches
+
+-- with an empty path, what was met is done
+done_of : (es : List EquationValue) (ps : List Progress) (path : List ℕ) (k : ℕ) → IsSearch es ps path → path ≡ [] → k < length es → progress_at ps k ≢ New → progress_at ps k ≡ Done
+done_of es ps path k s empty low met = by_state (progress_at ps k) refl
+  where
+    by_state : (p : Progress) → progress_at ps k ≡ p → progress_at ps k ≡ Done
+    by_state New e = absurd (met e)
+    by_state (Open l) e = let p = s.placed k l low e in let within = subst (λ (ts : List ℕ). p.0 < length ts) empty p.1 in absurd (omega arith)
+    by_state Done e = e
+
+pub root_done : {E : Type 0} (es : List EquationValue) (r : Result Bool E) (old new : List Progress) (path : List ℕ) (root n : ℕ) → IfOk r (λ b. b ≡ false → IsSearch es new path) → IfOk r (λ b. b ≡ false → path ≡ []) → IfOk r (λ b. b ≡ false → KeepsMet (set old root (Open n)) new) → root < length es → root < length old → IfOk r (λ b. b ≡ false → progress_at new root ≡ Done)
+root_done es (Ok b) old new path root n search empty met low in_old = λ e. done_of es new path root (search e) (empty e) low (met e root (λ f. let g = sym (get_or-set_same old root (Open n) New in_old) ∙ f in cc))
+root_done es (Err e) old new path root n search empty met low in_old = tt
+
+pub root_search : (es : List Equation) (ps : List Progress) (path longer : List ℕ) (root n : ℕ) (e : Equation) → IsSearch (equation_views es) ps path → path ≡ [] → root < length es → progress_at ps root ≡ New → e ≡ get_or es root e → n ≡ length (get_or es root e).operands.items → longer ≡ path ++ root ∷ [] → IsSearch (equation_views es) (set ps root (Open n)) longer
+root_search es ps path longer root n e s empty low at found count pushed =
+    let views = length-views es in
+    let size : n ≡ length e.operands.items = count ∙ sym (ap (λ (z : Equation). length z.operands.items) found) in
+    subst (IsSearch (equation_views es) (set ps root (Open n))) (sym pushed)
+    (enter_search (equation_views es) ps path root n s (omega arith) at (operand_count_at es root e n low found size) (λ t h. let none = ap (λ (ts : List ℕ). length ts) empty in absurd (omega arith)))
+
+-- where all equations are done no wire depends on itself
+pub acyclic_of : (es : List EquationValue) (ps : List Progress) (path : List ℕ) (n : ℕ) → IsSearch es ps path → length es ≤ n → ((k : ℕ) → k < n → progress_at ps k ≡ Done) → (w : ℕ) → ComesBack es w → ⊥
+acyclic_of es ps path n s all done w back =
+    let r = reads_at es w back.0 back.2.0 in
+    let low = r.1 in
+    s.free r.0 low (done r.0 (omega arith)) (subst (ComesBack es) (sym r.2) back)

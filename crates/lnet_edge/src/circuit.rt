@@ -1,11 +1,13 @@
 //! Circuits as files hold them: inputs, equations and outputs, by wires.
 
-ghost use Rattle.std.specs.Prelude.{◌≡◌};
+ghost use Rattle.std.specs.Prelude.{◌≡◌, ◌+◌, ◌<◌, ◌≤◌, length, IfOk, IfErr};
 ghost use Rattle.lnet_edge.specs.Circuits.{IsInOrder};
 ghost use Rattle.lnet_edge.specs.CircuitLists.{equation_views, listed_circuit};
-ghost use Rattle.lnet_edge.specs.Wires.{IsCircuit};
+ghost use Rattle.lnet_edge.specs.Wires.{HasArities, IsCircuit, IsRefused};
 
 use crate::cover::CoverRows;
+use crate::cycles::is_cyclic;
+use crate::drivers::{drive_all, drivers_of};
 use crate::fault::Fault;
 use crate::name::Name;
 use smallvec::SmallVec;
@@ -117,6 +119,48 @@ impl Model for Circuit {
 }
 
 impl Circuit {
+    /// The circuit of these ports and equations.
+    ///
+    /// `alloc` is where the search keeps what it needs until it ends. Expected time and memory are linear in the size of
+    /// the lists. Cycles are found by a depth-first search along operands (R. Tarjan, "Depth-First Search and Linear
+    /// Graph Algorithms", 1972) with a stack of its own.
+    ///
+    /// # Errors
+    /// `Fault` exactly where a rule is broken, the first of these: `Undriven` where an output or an operand names a wire
+    /// that nothing drives, `Twice` where a wire is driven twice (wire 0 is driven by the constant), `Cycle` where a wire
+    /// depends on itself through equations. `NoMemory` where memory runs out.
+    pub fn new(
+        alloc: Global,
+        inputs: Vec<InputPort>,
+        outputs: Vec<OutputPort>,
+        equations: Vec<Equation>,
+    ) -> Result<Circuit, CircuitError>
+        requires arities { HasArities (equation_views equations.items) }
+        requires few { length inputs.items + length equations.items < 4294967296 }
+        requires few_outputs { length outputs.items ≤ 100000000 }
+        ensures lists { IfOk result (λ c. c ≡ listed_circuit inputs.items outputs.items equations.items) }
+        // No rule is broken.
+        ensures circuit { IfOk result (λ c. IsCircuit c) }
+        // That rule is broken, and none before it.
+        ensures refused { IfErr result (IsRefused (listed_circuit inputs.items outputs.items equations.items)) }
+    {
+        let (drivers, twice) = drivers_of(alloc, &inputs, &equations)?;
+        if !drive_all(&drivers, &outputs, &equations) {
+            return Err(CircuitError::Fault(Fault::Undriven));
+        }
+        if twice {
+            return Err(CircuitError::Fault(Fault::Twice));
+        }
+        if is_cyclic(alloc, &drivers, &equations)? {
+            return Err(CircuitError::Fault(Fault::Cycle));
+        }
+        Ok(Circuit {
+            inputs,
+            outputs,
+            equations,
+        })
+    }
+
     /// The circuit of these ports and equations, which are numbered in order: from 1 without a gap, first the inputs and
     /// then each equation, an And of two operands, after those it uses; none has a name. It takes no memory.
     pub fn in_order(

@@ -14,7 +14,7 @@ use Rattle.lnet_edge.specs.Drivers.{Drivers, driver_at, is_driven, drives_operan
 
 -- ---- a test of each wire that is used
 
-all_operands : (p : ℕ → Bool) (rs : List WireRef) → list_all (λ (r : WireRef). p r.wire.0) rs ≡ list_all p (map (λ (r : WireRef). r.wire.0) rs)
+pub all_operands : (p : ℕ → Bool) (rs : List WireRef) → list_all (λ (r : WireRef). p r.wire.0) rs ≡ list_all p (map (λ (r : WireRef). r.wire.0) rs)
 all_operands p [] = refl
 all_operands p (r ∷ rs) = ap (λ b. p r.wire.0 && b) (all_operands p rs)
 
@@ -39,23 +39,23 @@ all_used m ins os es =
 
 -- ---- what the test says
 
-both_true : (a b : Bool) → (a && b) ≡ true → (a ≡ true) × (b ≡ true)
+pub both_true : (a b : Bool) → (a && b) ≡ true → (a ≡ true) × (b ≡ true)
 both_true true b e = (refl, e)
 both_true false b e = absurd cc
 
-at_each : (p : ℕ → Bool) (xs : List ℕ) (k d : ℕ) → list_all p xs ≡ true → k < length xs → p (get_or xs k d) ≡ true
+pub at_each : (p : ℕ → Bool) (xs : List ℕ) (k d : ℕ) → list_all p xs ≡ true → k < length xs → p (get_or xs k d) ≡ true
 at_each p [] k d all h = absurd (omega arith)
 at_each p (x ∷ xs) zero d all h = (both_true (p x) (list_all p xs) all).0
 at_each p (x ∷ xs) (suc k) d all h = at_each p xs k d (both_true (p x) (list_all p xs) all).1 (omega arith)
 
-abbrev FailsAt : (ℕ → Bool) → List ℕ → Type 0
+abbrev pub FailsAt : (ℕ → Bool) → List ℕ → Type 0
 FailsAt p xs = (w : ℕ) × Contains xs w × (p w ≡ false)
 
 fails_here : (p : ℕ → Bool) (x : ℕ) (xs : List ℕ) (b : Bool) → p x ≡ b → (b && list_all p xs) ≡ false → (list_all p xs ≡ false → FailsAt p xs) → FailsAt p (x ∷ xs)
 fails_here p x xs false is e later = (x, (0, omega arith, refl), is)
 fails_here p x xs true is e later = let f = later e in (f.0, (suc f.1.0, (let h = f.1.1 in omega arith), f.1.2), f.2)
 
-fails_at : (p : ℕ → Bool) (xs : List ℕ) → list_all p xs ≡ false → FailsAt p xs
+pub fails_at : (p : ℕ → Bool) (xs : List ℕ) → list_all p xs ≡ false → FailsAt p xs
 fails_at p [] e = absurd cc
 fails_at p (x ∷ xs) e = fails_here p x xs (p x) refl e (fails_at p xs)
 

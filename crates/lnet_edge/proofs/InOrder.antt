@@ -1,10 +1,13 @@
 -- A circuit that is numbered in order keeps the rules of circuits.
-use Rattle.std.proofs.Common.{◌≡◌, ◌≢◌, ℕ, zero, suc, ◌+◌, ◌-◌, ◌<◌, ◌≤◌, ◌⊎◌, false, List, [], ◌∷◌, ◌++◌, length, map, flat_map, get_or, None, refl, sym, ap, subst, ◌∙◌, inl, inr, arith, Contains, All, length-append}
+use Rattle.std.proofs.Common.{◌≡◌, ◌≢◌, ℕ, zero, suc, ◌+◌, ◌-◌, ◌<◌, ◌≤◌, ◌⊎◌, Bool, true, false, ◌&&◌, IsTrue, List, [], ◌∷◌, ◌++◌, length, map, flat_map, get_or, None, refl, sym, ap, subst, ◌∙◌, inl, inr, arith, Contains, All, length-append}
 use Rattle.lnet_edge.specs.declared.circuit.Rule.TheVariants.{And}
 use Rattle.lnet_edge.specs.declared.circuit.WireRef.{WireRef}
 use Rattle.lnet_edge.specs.declared.circuit.InputPort.{InputPort}
 use Rattle.lnet_edge.specs.declared.circuit.OutputPort.{OutputPort}
 use Rattle.lnet_edge.specs.Circuits.{CircuitValue, EquationValue, AllFrom, IsInputAt, IsGateAt, IsOutputOf, IsInOrder}
+use Rattle.std.specs.List.{list_all}
+use Rattle.lnet_edge.specs.Plain.{is_gate_equation, IsPlain}
+use Rattle.lnet_edge.proofs.SearchLemmas.{reads_from}
 use Rattle.lnet_edge.specs.Wires.{input_wires, output_wires, targets, operand_wires, driven_wires, used_wires, IsUndriven, IsTwice, Reads, IsWalk, end_of, IsCyclic, HasArity, HasArities, IsCircuit}
 
 pub AllFrom-get_or : {A : Type 0} (P : ℕ → A → Type 0) (i : ℕ) (xs : List A) (k : ℕ) (d : A) → AllFrom P i xs → k < length xs → P (i + k) (get_or xs k d)
@@ -138,4 +141,24 @@ IsCircuit-in_order c ord = record {
   arities = arities-in_order c ord;
   few = let h = ord.few in omega arith;
   few_outputs = let h = ord.few_outputs in omega arith;
+}
+
+-- ---- plain
+
+gates-in_order : (i : ℕ) (es : List EquationValue) → AllFrom IsGateAt i es → IsTrue (list_all is_gate_equation es)
+gates-in_order i [] at = refl
+gates-in_order i (e ∷ es) at =
+    ap (λ b. b && list_all is_gate_equation es) (subst (λ (z : EquationValue). is_gate_equation z ≡ true) (sym at.0.2) refl) ∙ gates-in_order (i + 1) es at.1
+
+target-in_order : (c : CircuitValue) → IsInOrder c → (k : ℕ) → k < length c.equations → get_or (targets c.equations) k 0 ≡ (length c.inputs + 1) + k
+target-in_order c ord k low = counts-get_or (length c.inputs + 1) (targets c.equations) k 0 (counts-targets (length c.inputs + 1) c.equations ord.gates) (let n = length-targets c.equations in omega arith)
+
+pub IsPlain-in_order : (c : CircuitValue) → IsInOrder c → IsPlain c.equations
+IsPlain-in_order c ord = record {
+  gates = gates-in_order (length c.inputs + 1) c.equations ord.gates;
+  ordered = λ i k i_low k_low reads.
+    let low = reads_lower c ord (get_or (targets c.equations) i 0) (get_or (targets c.equations) k 0) (reads_from c.equations i (get_or (targets c.equations) k 0) i_low reads) in
+    let a = target-in_order c ord i i_low in
+    let b = target-in_order c ord k k_low in
+    omega arith;
 }

@@ -401,7 +401,7 @@ step_fits es ps top e left low (l, at, within) is ne found =
     let count = operand_count_at es top e (length e.operands.items) low found refl in
     omega arith
 
-place_some : (o : Option (Option ℕ)) (k : ℕ) → place_in o ≡ Some k → o ≡ Some (Some k)
+pub place_some : (o : Option (Option ℕ)) (k : ℕ) → place_in o ≡ Some k → o ≡ Some (Some k)
 place_some None k e = cc
 place_some (Some o) k e = ap Some e
 

@@ -9,5 +9,6 @@ pub mod CircuitLists
 pub mod Wires
 pub mod Drivers
 pub mod Searches
+pub mod Plain
 pub mod Values
 pub mod Names

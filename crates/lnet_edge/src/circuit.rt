@@ -1,8 +1,9 @@
 //! Circuits as files hold them: inputs, equations and outputs, by wires.
 
-ghost use Rattle.std.specs.Prelude.{◌≡◌, ◌+◌, ◌<◌, ◌≤◌, length, IfOk, IfErr};
+ghost use Rattle.std.specs.Prelude.{◌≡◌, ◌+◌, ◌<◌, ◌≤◌, ◌↔◌, length, IsTrue, IfOk, IfErr};
 ghost use Rattle.lnet_edge.specs.Circuits.{IsInOrder};
 ghost use Rattle.lnet_edge.specs.CircuitLists.{equation_views, listed_circuit};
+ghost use Rattle.lnet_edge.specs.Plain.{IsPlain};
 ghost use Rattle.lnet_edge.specs.Wires.{HasArities, IsCircuit, IsRefused};
 
 use crate::cover::CoverRows;
@@ -10,6 +11,7 @@ use crate::cycles::is_cyclic;
 use crate::drivers::{drive_all, drivers_of};
 use crate::fault::Fault;
 use crate::name::Name;
+use crate::plain::are_plain;
 use smallvec::SmallVec;
 use std::alloc::{AllocError, Global};
 use std::marker::Model;
@@ -104,18 +106,22 @@ pub struct Circuit {
     inputs: Vec<InputPort>,
     outputs: Vec<OutputPort>,
     equations: Vec<Equation>,
+    // Whether the equations are plain, which only the search in `new` can tell in linear time.
+    plain: bool,
 }
 
 impl Model for Circuit {
+    ghost use Rattle.std.specs.Prelude.{◌↔◌, IsTrue};
     ghost use Rattle.lnet_edge.specs.Circuits.{CircuitValue};
     ghost use Rattle.lnet_edge.specs.Wires.{IsCircuit};
-    ghost use Rattle.lnet_edge.specs.CircuitLists.{listed_circuit};
+    ghost use Rattle.lnet_edge.specs.CircuitLists.{equation_views, listed_circuit};
+    ghost use Rattle.lnet_edge.specs.Plain.{IsPlain};
 
     ghost Value = { CircuitValue };
 
     ghost view = { λ c. listed_circuit c.inputs.items c.outputs.items c.equations.items };
 
-    ghost invariant = { λ c. IsCircuit (listed_circuit c.inputs.items c.outputs.items c.equations.items) };
+    ghost invariant = { λ c. IsCircuit (listed_circuit c.inputs.items c.outputs.items c.equations.items) × (IsTrue c.plain ↔ IsPlain (equation_views c.equations.items)) };
 }
 
 impl Circuit {
@@ -154,10 +160,12 @@ impl Circuit {
         if is_cyclic(alloc, &drivers, &equations)? {
             return Err(CircuitError::Fault(Fault::Cycle));
         }
+        let plain = are_plain(&drivers, &equations);
         Ok(Circuit {
             inputs,
             outputs,
             equations,
+            plain,
         })
     }
 
@@ -175,6 +183,7 @@ impl Circuit {
             inputs,
             outputs,
             equations,
+            plain: true,
         }
     }
 
@@ -199,5 +208,13 @@ impl Circuit {
         ensures circuit { IsCircuit self.now }
     {
         &self.equations
+    }
+
+    /// Whether each equation is an And or an Xor of two operands, a Maj or a Lut, and stands after those whose wires it
+    /// uses. Constant time; it takes no memory.
+    pub fn is_plain(&self) -> bool
+        ensures { IsTrue result ↔ IsPlain self.now.equations }
+    {
+        self.plain
     }
 }

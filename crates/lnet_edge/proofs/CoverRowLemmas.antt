@@ -1,5 +1,5 @@
 -- What holds of each row of a cover.
-use Rattle.std.proofs.Common.{◌≡◌, ℕ, ◌<◌, Bool, true, false, ◌&&◌, List, [], ◌∷◌, length, map, get_or, zero, suc, arith, refl, IsTrue}
+use Rattle.std.proofs.Common.{ℕ, ◌<◌, Bool, true, false, ◌&&◌, List, [], ◌∷◌, length, map, get_or, zero, suc, arith, refl, IsTrue}
 use Rattle.std.specs.List.{list_all}
 
 both : (a b : Bool) → IsTrue (a && b) → IsTrue a × IsTrue b

@@ -1,5 +1,5 @@
 -- What a map of drivers says after another wire.
-use Rattle.std.proofs.Common.{◌≡◌, ◌≢◌, ℕ, zero, suc, ◌+◌, ◌<◌, ◌≤◌, ◌⊎◌, ◌||◌, Bool, true, false, cond, List, [], ◌∷◌, ◌++◌, length, map, get_or, take, Option, Some, None, is_some, nat_eq, eqb, refl, sym, ap, subst, ◌∙◌, inl, inr, arith, Contains, Decides, length-append, append_assoc}
+use Rattle.std.proofs.Common.{◌≡◌, ◌≢◌, ℕ, zero, suc, ◌+◌, ◌<◌, ◌⊎◌, ◌||◌, Bool, true, false, cond, List, [], ◌∷◌, ◌++◌, length, get_or, take, Option, Some, None, is_some, nat_eq, refl, sym, ap, subst, ◌∙◌, inl, inr, arith, Contains, Decides, length-append, append_assoc}
 use Rattle.std.specs.HashMap.{Updates}
 use Rattle.std.proofs.lemmas.Bool.Decides.{eqb_tells}
 use Rattle.std.proofs.lemmas.List.{take_more, get_or_append_left}
@@ -9,8 +9,8 @@ use Rattle.std.proofs.Math.Seq.{get_or-append_seam}
 use Rattle.lnet_edge.specs.declared.circuit.Equation.{Equation}
 use Rattle.lnet_edge.specs.declared.circuit.InputPort.{InputPort}
 use Rattle.lnet_edge.specs.Circuits.{EquationValue}
-use Rattle.lnet_edge.specs.CircuitLists.{equation_view, equation_views}
-use Rattle.lnet_edge.specs.Wires.{input_wires, targets, operand_wires, Repeats}
+use Rattle.lnet_edge.specs.CircuitLists.{equation_views}
+use Rattle.lnet_edge.specs.Wires.{input_wires, targets, Repeats}
 use Rattle.lnet_edge.specs.Drivers.{Drivers, driver_at, target_at, KnowsWires, KnowsEquations}
 
 -- ---- numbers that stand twice
@@ -54,9 +54,10 @@ has-push m n xs x v has up w =
           let now : driver_at n w ≡ Some v = up.0 w ∙ ap (λ b. cond b (Some v) (driver_at m w)) p.0 in
           ((λ _. subst (Contains (xs ++ x ∷ [])) p.1 (Contains-push xs x)), (λ _. ap is_some now))
       | inr p ↦
-          let now : driver_at n w ≡ driver_at m w = up.0 w ∙ ap (λ b. cond b (Some v) (driver_at m w)) p.0 in
-          ((λ e. Contains-append_left xs (x ∷ []) w ((has w).0 (ap is_some (sym now) ∙ e))),
-           (λ c. ap is_some now ∙ elim (Contains-push_cases xs x w c) [ inl d ↦ (has w).1 d | inr e ↦ absurd (p.1 e) ]))
+          let now : driver_at n w ≡ driver_at m w = up.0 w ∙ ap (λ b. cond b (Some v) (driver_at m w)) p.0 in (
+            (λ e. Contains-append_left xs (x ∷ []) w ((has w).0 (ap is_some (sym now) ∙ e))),
+            (λ c. ap is_some now ∙ elim (Contains-push_cases xs x w c) [ inl d ↦ (has w).1 d | inr e ↦ absurd (p.1 e) ]),
+          )
     ]
 
 pub KnowsWires-push : (m n : Drivers) (twice : Bool) (xs : List ℕ) (x : ℕ) (v : Option ℕ) (old : Option (Option ℕ)) → KnowsWires m twice xs → Updates nat_eq m n x (Some v) → old ≡ driver_at m x → KnowsWires n (twice || is_some old) (xs ++ x ∷ [])
@@ -132,13 +133,13 @@ KnowsEquations-push m n twice es i x old at knows up was = record {
     each false true is of e = cc
     each false false is of e = λ k low. elim (eqb_tells x (target_at es k)) as (λ _. driver_at n (target_at es k) ≡ Some (Some k)) [
       | inl p ↦ elim (eqb_tells k i) as (λ _. driver_at n (target_at es k) ≡ Some (Some k)) [
-          | inl q ↦ up.0 (target_at es k) ∙ ap (λ b. cond b (Some (Some i)) (driver_at m (target_at es k))) p.0 ∙ ap (λ (j : ℕ). Some (Some j)) (sym q.1)
-          | inr q ↦
-              let below : k < i = (let ne = q.1 in omega arith) in
-              let was_some : old ≡ Some (Some k) = was ∙ ap (driver_at m) p.1 ∙ knows.each (sym is) k below in
-              let f : false ≡ true = of ∙ ap is_some was_some in
-              cc
-        ]
+        | inl q ↦ up.0 (target_at es k) ∙ ap (λ b. cond b (Some (Some i)) (driver_at m (target_at es k))) p.0 ∙ ap (λ (j : ℕ). Some (Some j)) (sym q.1)
+        | inr q ↦
+            let below : k < i = (let ne = q.1 in omega arith) in
+            let was_some : old ≡ Some (Some k) = was ∙ ap (driver_at m) p.1 ∙ knows.each (sym is) k below in
+            let f : false ≡ true = of ∙ ap is_some was_some in
+            cc
+      ]
       | inr p ↦
           let ne : k ≢ i = λ q. p.1 (at ∙ ap (target_at es) (sym q)) in
           up.0 (target_at es k) ∙ ap (λ b. cond b (Some (Some i)) (driver_at m (target_at es k))) p.0 ∙ knows.each (sym is) k (omega arith)

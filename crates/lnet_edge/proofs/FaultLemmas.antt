@@ -1,5 +1,5 @@
 -- When a circuit's lists break a rule, by what the map of drivers says.
-use Rattle.std.proofs.Common.{◌≡◌, ℕ, zero, suc, ◌+◌, ◌<◌, ◌&&◌, Bool, true, false, cond, List, [], ◌∷◌, ◌++◌, length, map, flat_map, get_or, is_some, refl, sym, ap, subst, ◌∙◌, arith, Contains}
+use Rattle.std.proofs.Common.{◌≡◌, ℕ, zero, suc, ◌<◌, ◌&&◌, Bool, true, false, List, [], ◌∷◌, ◌++◌, length, map, flat_map, get_or, refl, sym, ap, subst, ◌∙◌, arith, Contains}
 use Rattle.std.specs.List.{list_all}
 use Rattle.std.proofs.lemmas.List.Folds.{list_all-append}
 use Rattle.std.proofs.lemmas.List.Concat.{flat_map-cons}
@@ -7,10 +7,9 @@ use Rattle.lnet_edge.specs.declared.circuit.WireRef.{WireRef}
 use Rattle.lnet_edge.specs.declared.circuit.Equation.{Equation}
 use Rattle.lnet_edge.specs.declared.circuit.InputPort.{InputPort}
 use Rattle.lnet_edge.specs.declared.circuit.OutputPort.{OutputPort}
-use Rattle.lnet_edge.specs.Circuits.{CircuitValue, EquationValue}
 use Rattle.lnet_edge.specs.CircuitLists.{equation_view, equation_views, listed_circuit}
 use Rattle.lnet_edge.specs.Wires.{operand_wires, output_wires, input_wires, targets, driven_wires, used_wires, IsUndriven, ComesBack}
-use Rattle.lnet_edge.specs.Drivers.{Drivers, driver_at, is_driven, drives_operands, KnowsWires}
+use Rattle.lnet_edge.specs.Drivers.{Drivers, is_driven, drives_operands, KnowsWires}
 
 -- ---- a test of each wire that is used
 

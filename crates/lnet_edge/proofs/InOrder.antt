@@ -1,7 +1,5 @@
 -- A circuit that is numbered in order keeps the rules of circuits.
-use Rattle.std.proofs.Common.{◌≡◌, ◌≢◌, ℕ, zero, suc, ◌+◌, ◌-◌, ◌<◌, ◌≤◌, ◌⊎◌, Bool, true, false, ◌&&◌, IsTrue, List, [], ◌∷◌, ◌++◌, length, map, flat_map, get_or, None, refl, sym, ap, subst, ◌∙◌, inl, inr, arith, Contains, All, length-append}
-use Rattle.lnet_edge.specs.declared.circuit.Rule.TheVariants.{And}
-use Rattle.lnet_edge.specs.declared.circuit.WireRef.{WireRef}
+use Rattle.std.proofs.Common.{◌≡◌, ℕ, zero, suc, ◌+◌, ◌<◌, ◌≤◌, true, ◌&&◌, IsTrue, List, [], ◌∷◌, ◌++◌, length, flat_map, get_or, refl, sym, ap, subst, ◌∙◌, arith, length-append}
 use Rattle.lnet_edge.specs.declared.circuit.InputPort.{InputPort}
 use Rattle.lnet_edge.specs.declared.circuit.OutputPort.{OutputPort}
 use Rattle.lnet_edge.specs.Circuits.{CircuitValue, EquationValue, AllFrom, IsInputAt, IsGateAt, IsOutputOf, IsInOrder}
@@ -157,8 +155,8 @@ pub IsPlain-in_order : (c : CircuitValue) → IsInOrder c → IsPlain c.equation
 IsPlain-in_order c ord = record {
   gates = gates-in_order (length c.inputs + 1) c.equations ord.gates;
   ordered = λ i k i_low k_low reads.
-    let low = reads_lower c ord (get_or (targets c.equations) i 0) (get_or (targets c.equations) k 0) (reads_from c.equations i (get_or (targets c.equations) k 0) i_low reads) in
-    let a = target-in_order c ord i i_low in
-    let b = target-in_order c ord k k_low in
-    omega arith;
+      let low = reads_lower c ord (get_or (targets c.equations) i 0) (get_or (targets c.equations) k 0) (reads_from c.equations i (get_or (targets c.equations) k 0) i_low reads) in
+      let a = target-in_order c ord i i_low in
+      let b = target-in_order c ord k k_low in
+      omega arith;
 }

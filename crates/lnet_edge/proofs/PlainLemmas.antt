@@ -1,20 +1,19 @@
 -- Plain circuits, place by place.
-use Rattle.std.proofs.Common.{◌≡◌, ◌≢◌, ℕ, zero, suc, ◌+◌, ◌<◌, ◌≤◌, ◌↔◌, ◌&&◌, Bool, true, false, nat_lt, ltb, List, [], ◌∷◌, length, map, get_or, Option, Some, None, IsTrue, refl, sym, ap, subst, ◌∙◌, arith, Contains}
+use Rattle.std.proofs.Common.{◌≡◌, ℕ, zero, suc, ◌<◌, ◌≤◌, ◌↔◌, ◌&&◌, Bool, true, false, nat_lt, List, [], ◌∷◌, length, map, get_or, Option, Some, None, IsTrue, refl, sym, ap, subst, ◌∙◌, arith, Contains}
 use Rattle.std.specs.List.{list_all}
 use Rattle.std.proofs.lemmas.Bool.{ltb-true}
 use Rattle.std.proofs.lemmas.Bool.Decides.{nat_tests}
-use Rattle.std.proofs.lemmas.Grind.{get_or_default_zero}
 use Rattle.lnet_edge.specs.declared.circuit.WireRef.{WireRef}
 use Rattle.lnet_edge.specs.declared.circuit.Equation.{Equation}
 use Rattle.lnet_edge.specs.Circuits.{EquationValue}
 use Rattle.lnet_edge.specs.CircuitLists.{equation_view, equation_views}
 use Rattle.lnet_edge.specs.Wires.{operand_wires}
 use Rattle.lnet_edge.specs.Drivers.{Drivers, driver_at, place_in, target_at, KnowsEquations}
-use Rattle.lnet_edge.specs.Searches.{operands_at, ReadsPlace}
+use Rattle.lnet_edge.specs.Searches.{ReadsPlace}
 use Rattle.lnet_edge.specs.Plain.{is_gate_equation, is_before, is_plain_at, IsPlain}
 use Rattle.lnet_edge.proofs.DriverLemmas.{length-views}
 use Rattle.lnet_edge.proofs.SearchLemmas.{operands_at-view, place_some}
-use Rattle.lnet_edge.proofs.FaultLemmas.{FailsAt, all_operands, at_each, fails_at, both_true}
+use Rattle.lnet_edge.proofs.FaultLemmas.{all_operands, at_each, fails_at, both_true}
 
 -- the equation at this place is a gate, and stands after those whose wires it uses
 abbrev pub PlainAt : List EquationValue → ℕ → Type 0
@@ -29,13 +28,15 @@ pub plain_here : (m : Drivers) (es : List Equation) (i : ℕ) (e : Equation) (r 
 plain_here m es i e r knows low is test passed =
     let t = both_true (is_gate_equation (equation_view e)) (list_all (λ (r : WireRef). is_before (place_in (driver_at m r.wire.0)) i) e.operands.items) (sym test ∙ passed) in
     let all = sym (all_operands (λ (w : ℕ). is_before (place_in (driver_at m w)) i) e.operands.items) ∙ t.1 in
-    let n = length-views es in
-    (gate_at es i e low is ∙ t.0, λ k k_low reads.
-      let here = subst (λ (os : List ℕ). Contains os (target_at (equation_views es) k)) (operands_at-view es i e low is) reads in
-      let before : is_before (place_in (driver_at m (target_at (equation_views es) k))) i ≡ true = sym (ap (λ (w : ℕ). is_before (place_in (driver_at m w)) i) here.2) ∙ at_each (λ (w : ℕ). is_before (place_in (driver_at m w)) i) (operand_wires (equation_view e)) here.0 (target_at (equation_views es) k) all here.1 in
-      let k_low2 : k < length es = omega arith in
-      let less : nat_lt k i ≡ true = sym (ap (λ o. is_before (place_in o) i) (knows.each refl k k_low2)) ∙ before in
-      ltb-true k i less)
+    let n = length-views es in (
+      gate_at es i e low is ∙ t.0,
+      λ k k_low reads.
+          let here = subst (λ (os : List ℕ). Contains os (target_at (equation_views es) k)) (operands_at-view es i e low is) reads in
+          let before : is_before (place_in (driver_at m (target_at (equation_views es) k))) i ≡ true = sym (ap (λ (w : ℕ). is_before (place_in (driver_at m w)) i) here.2) ∙ at_each (λ (w : ℕ). is_before (place_in (driver_at m w)) i) (operand_wires (equation_view e)) here.0 (target_at (equation_views es) k) all here.1 in
+          let k_low2 : k < length es = omega arith in
+          let less : nat_lt k i ≡ true = sym (ap (λ o. is_before (place_in o) i) (knows.each refl k k_low2)) ∙ before in
+          ltb-true k i less,
+    )
 
 -- ---- all places
 

@@ -1,7 +1,7 @@
 -- A depth-first search along operands: each step keeps what the search keeps.
-use Rattle.std.proofs.Common.{◌≡◌, ◌≢◌, ℕ, zero, suc, ◌+◌, ◌-◌, ◌<◌, ◌≤◌, ◌⊎◌, Bool, false, true, replicate, Result, Ok, Err, IfOk, List, [], ◌∷◌, ◌++◌, length, map, get_or, set, take, Option, Some, None, nat_eq, refl, sym, ap, subst, ◌∙◌, inl, inr, arith, Contains, sum_by, length-append}
+use Rattle.std.proofs.Common.{◌≡◌, ◌≢◌, ℕ, zero, suc, ◌+◌, ◌-◌, ◌<◌, ◌≤◌, ◌⊎◌, Bool, false, Result, Ok, Err, IfOk, List, [], ◌∷◌, ◌++◌, length, map, get_or, set, take, Option, Some, None, refl, sym, ap, subst, ◌∙◌, inl, inr, arith, Contains, length-append}
 use Rattle.std.proofs.lemmas.Bool.Decides.{eqb_tells}
-use Rattle.std.proofs.lemmas.List.{get_or_append_left, get_or-set_same, get_or-set_other, get_or-take, length-take-le, length-set, length-map, length-replicate}
+use Rattle.std.proofs.lemmas.List.{get_or_append_left, get_or-set_same, get_or-set_other, get_or-take, length-take-le, length-set, length-map}
 use Rattle.std.proofs.lemmas.List.Sums.{sum_by-set, get_or-le-sum_by}
 use Rattle.std.proofs.lemmas.Grind.{get_or_default_zero}
 use Rattle.std.proofs.Math.Seq.{get_or-append_seam}
@@ -210,9 +210,9 @@ leave_search m es ps path top knows s some last top_low at = record {
   ];
   below = λ t h. subst (λ (k : ℕ). k < length es) (sym (shown t (omega (arith, size)))) (s.below t (omega (arith, size)));
   opened = λ t h.
-    let o = s.opened t (omega (arith, size)) in
-    let ne : get_or path t 0 ≢ top = (λ q. s.apart t (length path - 1) (omega (arith, size)) (omega (arith, size)) (q ∙ last)) in
-    (o.0, ap (progress_at new) (shown t (omega (arith, size))) ∙ get_or-set_other ps top (get_or path t 0) Done New ne ∙ o.1);
+      let o = s.opened t (omega (arith, size)) in
+      let ne : get_or path t 0 ≢ top = (λ q. s.apart t (length path - 1) (omega (arith, size)) (omega (arith, size)) (q ∙ last)) in
+      (o.0, ap (progress_at new) (shown t (omega (arith, size))) ∙ get_or-set_other ps top (get_or path t 0) Done New ne ∙ o.1);
   apart = λ a b before h q. s.apart a b before (omega (arith, size)) (sym (shown a (omega (arith, size))) ∙ q ∙ shown b (omega (arith, size)));
   chain = λ t h. subst (λ (k : ℕ). ReadsPlace es k (get_or shorter (t + 1) 0)) (sym (shown t (omega (arith, size)))) (subst (ReadsPlace es (get_or path t 0)) (sym (shown (t + 1) (omega (arith, size)))) (s.chain t (omega (arith, size))));
 }
@@ -360,7 +360,7 @@ enters es ps path longer top k n s some is (k_low, at, reads) count pushed =
     let few = few_operands es k k_low in
     record {
       search = subst (IsSearch es (set ps k (Open n))) (sym pushed) (enter_search es ps path k n s k_low at count
-        (λ t e. let last : top ≡ get_or path t 0 = (let i : length path - 1 ≡ t = omega arith in is ∙ ap (λ (j : ℕ). get_or path j 0) i) in subst (λ (i : ℕ). ReadsPlace es i k) last reads));
+          (λ t e. let last : top ≡ get_or path t 0 = (let i : length path - 1 ≡ t = omega arith in is ∙ ap (λ (j : ℕ). get_or path j 0) i) in subst (λ (i : ℕ). ReadsPlace es i k) last reads));
       done = done_kept ps k (Open n) low (new_not_done (progress_at ps k) at);
       met = met_kept ps k (Open n) low (λ e. cc);
       less = less_work (operand_count es) ps k (Open n) low (subst (λ (p : Progress). n + 1 < steps_left (operand_count es) p) (sym at) (omega arith));
@@ -413,11 +413,14 @@ open_before : (ps : List Progress) (top left l : ℕ) → progress_at ps top ≡
 open_before ps top left l at same ne = let e : l ≡ left - 1 + 1 = omega arith in at ∙ ap Open e
 
 pub step_past : (m : Drivers) (es : List Equation) (ps : List Progress) (top : ℕ) (e : Equation) (left wire : ℕ) (found : Option ℕ) → KnowsEquations m false (equation_views es) (length es) → top < length es → OpenAt (equation_views es) ps top → ((l : ℕ) → progress_at ps top ≡ Open l → left ≡ l) → left ≢ 0 → e ≡ get_or es top e → wire ≡ get_or (operand_wires (equation_view e)) (left - 1) 0 → found ≡ place_in (driver_at m wire) → found ≡ None → IsStep (equation_views es) ps top (step.Pass (left - 1))
-step_past m es ps top e left wire found knows low (l, at, within) is ne there wired looked none = (open_before ps top left l at (is l at) ne, λ k k_low target.
-    let k_low2 : k < length es = (let n = length-views es in omega arith) in
-    let here : target_at (equation_views es) k ≡ wire = target ∙ sym (last_left es top left wire e low there wired) in
-    let some : None ≡ Some k = sym none ∙ looked ∙ ap place_in (ap (driver_at m) (sym here) ∙ knows.each refl k k_low2) in
-    cc)
+step_past m es ps top e left wire found knows low (l, at, within) is ne there wired looked none = (
+  open_before ps top left l at (is l at) ne,
+  λ k k_low target.
+      let k_low2 : k < length es = (let n = length-views es in omega arith) in
+      let here : target_at (equation_views es) k ≡ wire = target ∙ sym (last_left es top left wire e low there wired) in
+      let some : None ≡ Some k = sym none ∙ looked ∙ ap place_in (ap (driver_at m) (sym here) ∙ knows.each refl k k_low2) in
+      cc,
+)
 
 pub step_found : (m : Drivers) (es : List Equation) (ps : List Progress) (top : ℕ) (e : Equation) (left wire next : ℕ) (found : Option ℕ) (state : Progress) → KnowsEquations m false (equation_views es) (length es) → top < length es → OpenAt (equation_views es) ps top → ((l : ℕ) → progress_at ps top ≡ Open l → left ≡ l) → left ≢ 0 → e ≡ get_or es top e → wire ≡ get_or (operand_wires (equation_view e)) (left - 1) 0 → found ≡ place_in (driver_at m wire) → found ≡ Some next → state ≡ progress_at ps next → IsStep (equation_views es) ps top (step_at state next (left - 1))
 step_found m es ps top e left wire next found state knows low (l, at, within) is ne there wired looked some state_is = by_state state state_is
@@ -443,9 +446,12 @@ step_found m es ps top e left wire next found state knows low (l, at, within) is
     by_state : (p : Progress) → p ≡ progress_at ps next → IsStep (equation_views es) ps top (step_at p next (left - 1))
     by_state New p = (low2, sym p, reads)
     by_state (Open o) p = (next, low2, (o, sym p), reads)
-    by_state Done p = (open_before ps top left l at (is l at) ne, λ k k_low there2.
-      let same : k ≡ next = own_targets m (equation_views es) (subst (KnowsEquations m false (equation_views es)) (sym n) knows) k next k_low low2 (there2 ∙ sym target) in
-      ap (progress_at ps) same ∙ sym p)
+    by_state Done p = (
+      open_before ps top left l at (is l at) ne,
+      λ k k_low there2.
+          let same : k ≡ next = own_targets m (equation_views es) (subst (KnowsEquations m false (equation_views es)) (sym n) knows) k next k_low low2 (there2 ∙ sym target) in
+          ap (progress_at ps) same ∙ sym p,
+    )
 
 -- ---- whole searches
 

@@ -1,11 +1,11 @@
 -- A depth-first search along operands: its steps, and what it keeps.
-use Rattle.std.specs.Prelude.{◌≡◌, ◌≢◌, ℕ, ◌+◌, ◌<◌, ◌≤◌, List, [], ◌∷◌, length, map, slice_index, slice_index_or, sum_by, Contains}
+use Rattle.std.specs.Prelude.{◌≡◌, ◌≢◌, ℕ, ◌+◌, ◌<◌, ◌≤◌, List, [], length, map, slice_index, slice_index_or, sum_by, Contains}
 use Rattle.lnet_edge.specs.declared.cycles.Progress.{Progress}
 use Rattle.lnet_edge.specs.declared.cycles.Progress.TheVariants.{New, Open, Done}
 use Rattle.lnet_edge.specs.declared.cycles.Step.{Step}
 use Rattle.lnet_edge.specs.declared.cycles.Step.TheVariants as step
 use Rattle.lnet_edge.specs.Circuits.{EquationValue}
-use Rattle.lnet_edge.specs.Wires.{targets, operand_wires, ComesBack}
+use Rattle.lnet_edge.specs.Wires.{operand_wires, ComesBack}
 use Rattle.lnet_edge.specs.Drivers.{target_at}
 
 -- the operands of the equation at this place

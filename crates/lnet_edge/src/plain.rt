@@ -26,8 +26,7 @@ pub fn are_plain(drivers: &Drivers, equations: &[Equation]) -> bool
 fn stands_plain(drivers: &Drivers, equation: &Equation, place: usize) -> bool
     ensures { result ≡ is_plain_at drivers.now (equation_view equation.now) place }
 {
-    is_gate_rule(&equation.rule, equation.operands.len())
-        && uses_before(drivers, equation, place)
+    is_gate_rule(&equation.rule, equation.operands.len()) && uses_before(drivers, equation, place)
 }
 
 fn uses_before(drivers: &Drivers, equation: &Equation, place: usize) -> bool

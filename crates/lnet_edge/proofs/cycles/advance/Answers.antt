@@ -1,4 +1,4 @@
-use Rattle.std.proofs.Common.{arith, ◌≡◌, ◌-◌, ◌<◌, ℕ, length, get_or, sym, ap, subst, ◌∙◌}
+use Rattle.std.proofs.Common.{arith, length, sym, ap, ◌∙◌}
 use Rattle.lnet_edge.specs.CircuitLists.{equation_views}
 use Rattle.lnet_edge.specs.declared.circuit.Equation.{Equation}
 use Rattle.lnet_edge.proofs.DriverLemmas.{knows_all, length-views}

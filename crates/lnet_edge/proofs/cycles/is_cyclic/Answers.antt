@@ -1,4 +1,4 @@
-use Rattle.std.proofs.Common.{◌≤◌, length, arith}
+use Rattle.std.proofs.Common.{arith}
 use Rattle.lnet_edge.specs.CircuitLists.{equation_views}
 use Rattle.lnet_edge.proofs.DriverLemmas.{length-views}
 use Rattle.lnet_edge.proofs.SearchLemmas.{acyclic_of}

@@ -1,4 +1,4 @@
-use Rattle.std.proofs.Common.{◌≡◌, ◌-◌, ◌<◌, ℕ, length, get_or, refl, sym, ap, subst, ◌∙◌}
+use Rattle.std.proofs.Common.{refl, sym, subst}
 use Rattle.lnet_edge.specs.declared.cycles.Step.{Step}
 use Rattle.lnet_edge.specs.CircuitLists.{equation_views}
 use Rattle.lnet_edge.specs.Searches.{IsStep}

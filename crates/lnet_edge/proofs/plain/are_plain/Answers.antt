@@ -1,4 +1,4 @@
-use Rattle.std.proofs.Common.{◌≡◌, ◌≤◌, length, refl, below_more, arith}
+use Rattle.std.proofs.Common.{refl, below_more, arith}
 use Rattle.lnet_edge.specs.CircuitLists.{equation_views}
 use Rattle.lnet_edge.proofs.DriverLemmas.{length-views}
 use Rattle.lnet_edge.proofs.PlainLemmas.{PlainAt, plain_here, all_plain, not_plain}
@@ -10,9 +10,10 @@ loop-place-preserved c =
     (plain_here c.args.drivers.now c.args.equations.now c.loop-place.place c.index-equations-place.result c.stands_plain.result c.requires c.loop-place-test.true c.index-equations-place.is c.stands_plain.ensures c.if-not-stands_plain.false)
 
 pub returns-then-not-stands_plain : goal.returns-then-not-stands_plain
-returns-then-not-stands_plain c =
-    ((λ e. absurd cc),
-     (λ plain. absurd (not_plain c.args.drivers.now c.args.equations.now c.loop-place.place c.index-equations-place.result c.stands_plain.result c.requires c.loop-place-test.true c.index-equations-place.is c.stands_plain.ensures c.if-not-stands_plain.true plain)))
+returns-then-not-stands_plain c = (
+  (λ e. absurd cc),
+  (λ plain. absurd (not_plain c.args.drivers.now c.args.equations.now c.loop-place.place c.index-equations-place.result c.stands_plain.result c.requires c.loop-place-test.true c.index-equations-place.is c.stands_plain.ensures c.if-not-stands_plain.true plain)),
+)
 
 pub returns : goal.returns
 returns c =

@@ -8,5 +8,5 @@ pub returns-clause-cells : goal.returns-clause-cells
 returns-clause-cells c =
     subst (λ (bytes : List ℕ). IsTrue (list_all is_cell bytes)) (sym c.as_slice.ensures)
     (subst (λ (r : _). IsTrue (is_row r.items)) (sym c.index.ensures)
-      (list_all-map-get_or is_row (λ r. r.items) c.self.inside.rows.items c.args.i c.index.result.now c.self.invariant
-        (subst (λ (v : CoverValue). c.args.i < length v.rows) (sym c.self.view_is) c.requires)))
+    (list_all-map-get_or is_row (λ r. r.items) c.self.inside.rows.items c.args.i c.index.result.now c.self.invariant
+    (subst (λ (v : CoverValue). c.args.i < length v.rows) (sym c.self.view_is) c.requires)))

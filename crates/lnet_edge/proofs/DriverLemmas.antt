@@ -6,11 +6,12 @@ use Rattle.std.proofs.lemmas.List.{take_more, get_or_append_left}
 use Rattle.std.proofs.lemmas.List.Elements.{Contains-append_left, Contains-push, Contains-push_cases}
 use Rattle.std.proofs.lemmas.Grind.{get_or_default_zero}
 use Rattle.std.proofs.Math.Seq.{get_or-append_seam}
+use Rattle.lnet_edge.proofs.WireLemmas.{length-views}
 use Rattle.lnet_edge.specs.declared.circuit.Equation.{Equation}
 use Rattle.lnet_edge.specs.declared.circuit.InputPort.{InputPort}
 use Rattle.lnet_edge.specs.Circuits.{EquationValue}
 use Rattle.lnet_edge.specs.CircuitLists.{equation_views}
-use Rattle.lnet_edge.specs.Wires.{input_wires, targets, Repeats}
+use Rattle.lnet_edge.specs.Wires.{input_wires, Repeats}
 use Rattle.lnet_edge.specs.Drivers.{Drivers, driver_at, target_at, KnowsWires, KnowsEquations}
 
 -- ---- numbers that stand twice
@@ -91,14 +92,6 @@ wire_at-inputs [] i p h is = absurd (omega arith)
 wire_at-inputs (q ∷ ps) zero p h is = ap (λ (z : InputPort). z.wire.0) is
 wire_at-inputs (q ∷ ps) (suc i) p h is = wire_at-inputs ps i p (omega arith) is
 
-pub length-input_wires : (ps : List InputPort) → length (input_wires ps) ≡ length ps
-length-input_wires [] = refl
-length-input_wires (p ∷ ps) = ap suc (length-input_wires ps)
-
-pub length-target_views : (es : List Equation) → length (targets (equation_views es)) ≡ length es
-length-target_views [] = refl
-length-target_views (e ∷ es) = ap suc (length-target_views es)
-
 -- no equation stands in the map after an input
 pub no_equation : (m n : Drivers) (x : ℕ) → ((w k : ℕ) → driver_at m w ≡ Some (Some k) → ⊥) → Updates nat_eq m n x (Some None) → (w k : ℕ) → driver_at n w ≡ Some (Some k) → ⊥
 no_equation m n x none up w k e = elim (eqb_tells x w) [
@@ -144,10 +137,6 @@ KnowsEquations-push m n twice es i x old at knows up was = record {
           let ne : k ≢ i = λ q. p.1 (at ∙ ap (target_at es) (sym q)) in
           up.0 (target_at es k) ∙ ap (λ b. cond b (Some (Some i)) (driver_at m (target_at es k))) p.0 ∙ knows.each (sym is) k (omega arith)
     ]
-
-pub length-views : (es : List Equation) → length (equation_views es) ≡ length es
-length-views [] = refl
-length-views (e ∷ es) = ap suc (length-views es)
 
 pub knows_all : (m : Drivers) (es : List Equation) → KnowsEquations m false (equation_views es) (length es) → KnowsEquations m false (equation_views es) (length (equation_views es))
 knows_all m es knows = subst (KnowsEquations m false (equation_views es)) (sym (length-views es)) knows

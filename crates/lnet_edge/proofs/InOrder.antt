@@ -1,5 +1,6 @@
 -- A circuit that is numbered in order keeps the rules of circuits.
 use Rattle.std.proofs.Common.{◌≡◌, ℕ, zero, suc, ◌+◌, ◌<◌, ◌≤◌, true, ◌&&◌, IsTrue, List, [], ◌∷◌, ◌++◌, length, flat_map, get_or, refl, sym, ap, subst, ◌∙◌, arith, length-append}
+use Rattle.lnet_edge.proofs.WireLemmas.{length-input_wires, length-targets}
 use Rattle.lnet_edge.specs.declared.circuit.InputPort.{InputPort}
 use Rattle.lnet_edge.specs.declared.circuit.OutputPort.{OutputPort}
 use Rattle.lnet_edge.specs.Circuits.{CircuitValue, EquationValue, AllFrom, IsInputAt, IsGateAt, IsOutputOf, IsInOrder}
@@ -37,21 +38,13 @@ counts-targets : (i : ℕ) (es : List EquationValue) → AllFrom IsGateAt i es �
 counts-targets i [] at = tt
 counts-targets i (e ∷ es) at = (ap (λ (z : EquationValue). z.target) at.0.2, counts-targets (i + 1) es at.1)
 
-length-inputs : (ps : List InputPort) → length (input_wires ps) ≡ length ps
-length-inputs [] = refl
-length-inputs (p ∷ ps) = ap suc (length-inputs ps)
-
-length-targets : (es : List EquationValue) → length (targets es) ≡ length es
-length-targets [] = refl
-length-targets (e ∷ es) = ap suc (length-targets es)
-
 counts-driven : (c : CircuitValue) → IsInOrder c → CountsFrom 0 (driven_wires c)
-counts-driven c ord = (refl, counts-append 1 (length c.inputs + 1) (input_wires c.inputs) (targets c.equations) (let e = length-inputs c.inputs in omega arith) (counts-inputs 1 c.inputs ord.inputs) (counts-targets (length c.inputs + 1) c.equations ord.gates))
+counts-driven c ord = (refl, counts-append 1 (length c.inputs + 1) (input_wires c.inputs) (targets c.equations) (let e = length-input_wires c.inputs in omega arith) (counts-inputs 1 c.inputs ord.inputs) (counts-targets (length c.inputs + 1) c.equations ord.gates))
 
 length-driven : (c : CircuitValue) → length (driven_wires c) ≡ suc (length c.inputs + length c.equations)
 length-driven c =
     let a = length-append (input_wires c.inputs) (targets c.equations) in
-    let i = length-inputs c.inputs in
+    let i = length-input_wires c.inputs in
     let t = length-targets c.equations in
     omega arith
 

@@ -11,7 +11,7 @@ use Rattle.lnet_edge.specs.Wires.{operand_wires}
 use Rattle.lnet_edge.specs.Drivers.{Drivers, driver_at, place_in, target_at, KnowsEquations}
 use Rattle.lnet_edge.specs.Searches.{ReadsPlace}
 use Rattle.lnet_edge.specs.Plain.{is_gate_equation, is_before, is_plain_at, IsPlain}
-use Rattle.lnet_edge.proofs.DriverLemmas.{length-views}
+use Rattle.lnet_edge.proofs.WireLemmas.{length-views}
 use Rattle.lnet_edge.proofs.SearchLemmas.{operands_at-view, place_some}
 use Rattle.lnet_edge.proofs.FaultLemmas.{all_operands, at_each, fails_at, both_true}
 

@@ -12,16 +12,12 @@ use Rattle.lnet_edge.specs.declared.circuit.Equation.{Equation}
 use Rattle.lnet_edge.specs.declared.circuit.WireRef.{WireRef}
 use Rattle.lnet_edge.specs.Circuits.{EquationValue}
 use Rattle.lnet_edge.specs.CircuitLists.{equation_view, equation_views}
-use Rattle.lnet_edge.specs.Wires.{targets, operand_wires, Reads, IsWalk, end_of, ComesBack}
+use Rattle.lnet_edge.specs.Wires.{operand_wires, Reads, IsWalk, end_of, ComesBack}
 use Rattle.lnet_edge.specs.Drivers.{Drivers, driver_at, place_in, target_at, KnowsEquations}
-use Rattle.lnet_edge.proofs.DriverLemmas.{length-views}
+use Rattle.lnet_edge.proofs.WireLemmas.{length-views}
 use Rattle.lnet_edge.specs.Searches.{operands_at, progress_at, IsSettled, ReadsPlace, step_at, IsStep, IsSearch, KeepsDone, KeepsMet, steps_left, work, operand_count, Advances}
 
 -- ---- equations at their places
-
-length-targets : (es : List EquationValue) → length (targets es) ≡ length es
-length-targets [] = refl
-length-targets (e ∷ es) = ap suc (length-targets es)
 
 -- what a step of a walk reads, by the place of its equation
 pub reads_at : (es : List EquationValue) (w v : ℕ) → Reads es w v → (k : ℕ) × (k < length es) × (target_at es k ≡ w) × Contains (operands_at es k) v

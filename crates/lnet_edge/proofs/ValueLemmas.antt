@@ -1,5 +1,5 @@
 -- The values of a circuit's wires: each is its driver's, and a greater depth changes nothing.
-use Rattle.std.proofs.Common.{◌≡◌, ◌≢◌, ℕ, zero, suc, ◌+◌, ◌<◌, ◌⊎◌, ◌||◌, Bool, true, false, List, [], ◌∷◌, ◌++◌, length, map, get_or, Option, Some, None, if◌then◌else◌, eqb, nat_eq, refl, sym, ap, subst, ◌∙◌, inl, inr, arith, Contains}
+use Rattle.std.proofs.Common.{length-append, ◌≡◌, ◌≢◌, ℕ, zero, suc, ◌+◌, ◌<◌, ◌⊎◌, ◌||◌, Bool, true, false, List, [], ◌∷◌, ◌++◌, length, map, get_or, Option, Some, None, if◌then◌else◌, eqb, nat_eq, refl, sym, ap, subst, ◌∙◌, inl, inr, arith, Contains}
 use Rattle.std.specs.Cmp.{nat_eq_equiv}
 use Rattle.std.specs.List.{AllByRecursion, IsDistinct, list_any}
 use Rattle.std.proofs.lemmas.Bool.{ne_eqb}
@@ -8,6 +8,7 @@ use Rattle.std.proofs.lemmas.List.{get_or-append-add, get_or_append_left}
 use Rattle.std.proofs.lemmas.Map.Made.{length-le_from_is_member}
 use Rattle.std.proofs.lemmas.Map.Views.{list_any-from_Contains}
 use Rattle.std.proofs.lemmas.Grind.{get_or_default_zero}
+use Rattle.lnet_edge.proofs.WireLemmas.{length-input_wires, length-targets}
 use Rattle.lnet_edge.specs.declared.circuit.WireRef.{WireRef}
 use Rattle.lnet_edge.specs.declared.circuit.InputPort.{InputPort}
 use Rattle.lnet_edge.specs.Circuits.{CircuitValue, EquationValue}
@@ -29,31 +30,19 @@ single xs i j once i_low j_low same = elim (eqb_tells i j) as (λ _. i ≡ j) [
     by_order (inl h) = once (i, j, h, j_low, same)
     by_order (inr h) = once (j, i, h, i_low, sym same)
 
-length-inputs : (ps : List InputPort) → length (input_wires ps) ≡ length ps
-length-inputs [] = refl
-length-inputs (p ∷ ps) = ap suc (length-inputs ps)
-
-length-targets : (es : List EquationValue) → length (targets es) ≡ length es
-length-targets [] = refl
-length-targets (e ∷ es) = ap suc (length-targets es)
-
-length-append' : (xs ys : List ℕ) → length (xs ++ ys) ≡ length xs + length ys
-length-append' [] ys = omega arith
-length-append' (x ∷ xs) ys = let e = length-append' xs ys in omega arith
-
 -- the place of an input, and of an equation, among all that drive
 input_stands : (c : CircuitValue) (k : ℕ) → k < length c.inputs → get_or (driven_wires c) (suc k) 0 ≡ get_or (input_wires c.inputs) k 0
-input_stands c k h = get_or_append_left (input_wires c.inputs) (targets c.equations) 0 k (let e = length-inputs c.inputs in omega arith)
+input_stands c k h = get_or_append_left (input_wires c.inputs) (targets c.equations) 0 k (let e = length-input_wires c.inputs in omega arith)
 
 target_stands : (c : CircuitValue) (k : ℕ) → get_or (driven_wires c) (suc (length c.inputs + k)) 0 ≡ get_or (targets c.equations) k 0
 target_stands c k =
-    ap (λ (n : ℕ). get_or (input_wires c.inputs ++ targets c.equations) (n + k) 0) (sym (length-inputs c.inputs))
+    ap (λ (n : ℕ). get_or (input_wires c.inputs ++ targets c.equations) (n + k) 0) (sym (length-input_wires c.inputs))
     ∙ get_or-append-add (input_wires c.inputs) (targets c.equations) k 0
 
 driven_count : (c : CircuitValue) → length (driven_wires c) ≡ suc (length c.inputs + length c.equations)
 driven_count c =
-    let a = length-append' (input_wires c.inputs) (targets c.equations) in
-    let i = length-inputs c.inputs in
+    let a = length-append (input_wires c.inputs) (targets c.equations) in
+    let i = length-input_wires c.inputs in
     let t = length-targets c.equations in
     omega arith
 

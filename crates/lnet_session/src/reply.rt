@@ -51,12 +51,7 @@ pub fn text_of_reply(alloc: Global, index: u32, reply: Reply) -> Result<String, 
 }
 
 /// The line of a command that met a content with this fault in this line.
-fn malformed_text(
-    alloc: Global,
-    index: u32,
-    line: u32,
-    kind: Fault,
-) -> Result<String, AllocError>
+fn malformed_text(alloc: Global, index: u32, line: u32, kind: Fault) -> Result<String, AllocError>
     ensures { IfOk result (λ text. string_bytes text ≡ reply_text index (Reply.Unmet (Unmet.Malformed line kind))) }
 {
     match kind {

@@ -1,7 +1,8 @@
 use Rattle.std.proofs.Common.{arith, length, sym, ap, ◌∙◌}
 use Rattle.lnet_edge.specs.CircuitLists.{equation_views}
 use Rattle.lnet_edge.specs.declared.circuit.Equation.{Equation}
-use Rattle.lnet_edge.proofs.DriverLemmas.{knows_all, length-views}
+use Rattle.lnet_edge.proofs.DriverLemmas.{knows_all}
+use Rattle.lnet_edge.proofs.WireLemmas.{length-views}
 use Rattle.lnet_edge.proofs.SearchLemmas.{cycle_found, passes, leaves, enters, open_top, operand_count_at, last_of, shorter_by_one}
 use Rattle.lnet_edge.proofs.cycles.advance.Goals as goal
 

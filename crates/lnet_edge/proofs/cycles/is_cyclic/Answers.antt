@@ -1,6 +1,6 @@
 use Rattle.std.proofs.Common.{arith}
 use Rattle.lnet_edge.specs.CircuitLists.{equation_views}
-use Rattle.lnet_edge.proofs.DriverLemmas.{length-views}
+use Rattle.lnet_edge.proofs.WireLemmas.{length-views}
 use Rattle.lnet_edge.proofs.SearchLemmas.{acyclic_of}
 use Rattle.lnet_edge.proofs.cycles.is_cyclic.Goals as goal
 

@@ -2,7 +2,8 @@ use Rattle.std.proofs.Common.{◌≡◌, ◌<◌, ◌+◌, ◌||◌, ◌++◌, S
 use Rattle.lnet_edge.specs.CircuitLists.{equation_views}
 use Rattle.lnet_edge.specs.Wires.{targets}
 use Rattle.lnet_edge.specs.Drivers.{KnowsWires, KnowsEquations, target_at}
-use Rattle.lnet_edge.proofs.DriverLemmas.{KnowsWires-next, KnowsEquations-push, target_at-view, length-target_views}
+use Rattle.lnet_edge.proofs.DriverLemmas.{KnowsWires-next, KnowsEquations-push, target_at-view}
+use Rattle.lnet_edge.proofs.WireLemmas.{length-target_views}
 use Rattle.lnet_edge.proofs.drivers.put_equations.Goals as goal
 
 pub loop-place-preserved : goal.loop-place-preserved

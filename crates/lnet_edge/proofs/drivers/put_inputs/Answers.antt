@@ -1,7 +1,8 @@
 use Rattle.std.proofs.Common.{◌<◌, ◌+◌, ◌||◌, ◌∷◌, [], None, length, take, sym, subst, arith, Bool}
 use Rattle.lnet_edge.specs.Wires.{input_wires}
 use Rattle.lnet_edge.specs.Drivers.{KnowsWires}
-use Rattle.lnet_edge.proofs.DriverLemmas.{KnowsWires-next, wire_at-inputs, length-input_wires, no_equation}
+use Rattle.lnet_edge.proofs.DriverLemmas.{KnowsWires-next, wire_at-inputs, no_equation}
+use Rattle.lnet_edge.proofs.WireLemmas.{length-input_wires}
 use Rattle.lnet_edge.proofs.drivers.put_inputs.Goals as goal
 
 pub loop-input-preserved : goal.loop-input-preserved

@@ -1,6 +1,6 @@
 use Rattle.std.proofs.Common.{refl, below_more, arith}
 use Rattle.lnet_edge.specs.CircuitLists.{equation_views}
-use Rattle.lnet_edge.proofs.DriverLemmas.{length-views}
+use Rattle.lnet_edge.proofs.WireLemmas.{length-views}
 use Rattle.lnet_edge.proofs.PlainLemmas.{PlainAt, plain_here, all_plain, not_plain}
 use Rattle.lnet_edge.proofs.plain.are_plain.Goals as goal
 

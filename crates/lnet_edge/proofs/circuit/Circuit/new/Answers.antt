@@ -1,5 +1,5 @@
 use Rattle.std.proofs.Common.{arith}
-use Rattle.lnet_edge.proofs.DriverLemmas.{length-views}
+use Rattle.lnet_edge.proofs.WireLemmas.{length-views}
 use Rattle.lnet_edge.proofs.FaultLemmas.{undriven_found, none_undriven, knows_of, drives_of, cyclic_by, acyclic_by}
 use Rattle.lnet_edge.proofs.PlainLemmas.{plain_by}
 use Rattle.lnet_edge.proofs.circuit.Circuit.new.Goals as goal

@@ -1,5 +1,5 @@
 -- The network of a circuit computes what the circuit computes, and is exported to that circuit again.
-use Rattle.std.proofs.Common.{◌≡◌, ℕ, zero, suc, ◌+◌, ◌-◌, ◌<◌, ◌≤◌, ◌⊎◌, Bool, true, false, not, ◌&&◌, List, [], ◌∷◌, length, map, flat_map, slice_get, None, Some, refl, sym, ap, subst, ◌∙◌, inl, inr, arith}
+use Rattle.std.proofs.Common.{◌≡◌, ℕ, zero, suc, ◌+◌, ◌<◌, ◌≤◌, ◌⊎◌, Bool, true, false, ◌&&◌, List, [], ◌∷◌, length, map, flat_map, slice_get, Some, refl, sym, ap, subst, ◌∙◌, inl, inr, arith}
 use Rattle.std.proofs.lemmas.Option.{slice_get-map}
 use Rattle.std.specs.Option.{option_map}
 use Rattle.std.specs.FinMap.{entries, from_entries}
@@ -20,7 +20,7 @@ use Rattle.lnet_listed.proofs.Entries.{length-map}
 use Rattle.lnet_listed.proofs.Whole.{listed-Acyclic}
 use Rattle.lnet_listed.proofs.NodeValues.{constant_value, input_value, and_value}
 use Rattle.lnet_netio.specs.Built.{signal_of, built_nodes, built, entry_equation, exported}
-use Rattle.lnet_netio.specs.Parts.{equation_gate, port_signal, port_of, output_of}
+use Rattle.lnet_netio.specs.Parts.{equation_gate, port_signal, port_of}
 use Rattle.lnet_netio.proofs.Numbering.{gates_of, signals_of, nodes-numbered, built-listed, listed-fits}
 use Rattle.lnet_netio.proofs.Exports.{ports-again, outputs-again, equations-again, circuit_of, exported-listed, circuit-in_order, gates_of-equations, signals-again}
 use Rattle.lnet_netio.proofs.Wires.{input_place-none, input_place-some, equation_at-none, equation_at-some, gate_at_place}

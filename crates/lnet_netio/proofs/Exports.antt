@@ -1,18 +1,16 @@
 -- The circuit that a listed network is exported to: its equations, that it is in order, and that it builds the network again.
-use Rattle.std.proofs.Common.{◌≡◌, ℕ, zero, suc, ◌+◌, ◌<◌, ◌≤◌, Bool, false, Option, List, [], ◌∷◌, ◌++◌, length, map, flat_map, refl, sym, ap, subst, ◌∙◌, add-zero, arith}
+use Rattle.std.proofs.Common.{◌≡◌, ℕ, zero, suc, ◌+◌, Bool, false, Option, List, [], ◌∷◌, ◌++◌, length, map, flat_map, refl, sym, ap, subst, ◌∙◌, add-zero, arith}
 use Rattle.std.proofs.lemmas.List.Concat.{flat_map-cons}
 use Rattle.std.proofs.lemmas.Grind.{flat_map-append}
-use Rattle.std.specs.FinMap.{entries}
 use Rattle.lnet_gates.specs.declared.signal.Signal.{Signal}
 use Rattle.lnet_gates.specs.Gates.{GateValue}
-use Rattle.lnet_model.specs.Networks.{Entry, Constant, Input, IsGate, NetworkValue}
-use Rattle.lnet_edge.specs.declared.circuit.Rule.{Rule}
+use Rattle.lnet_model.specs.Networks.{Constant, Input, IsGate}
 use Rattle.lnet_edge.specs.declared.circuit.Rule.TheVariants.{And}
 use Rattle.lnet_edge.specs.declared.circuit.WireRef.{WireRef}
 use Rattle.lnet_edge.specs.declared.circuit.InputPort.{InputPort}
 use Rattle.lnet_edge.specs.declared.circuit.OutputPort.{OutputPort}
 use Rattle.lnet_edge.specs.Circuits.{CircuitValue, EquationValue, AllFrom, IsInputAt, IsGateAt, IsOutputOf, IsInOrder}
-use Rattle.lnet_listed.specs.Listed.{numbered, numbers_from, input_entries, listed_entries, listed, and_gate, IsAndAt, AreAndsFrom, AreUpTo, IsListed}
+use Rattle.lnet_listed.specs.Listed.{numbered, numbers_from, input_entries, listed_entries, listed, IsAndAt, AreAndsFrom, AreUpTo, IsListed}
 use Rattle.lnet_listed.proofs.Numbered.{numbered-append, length-numbers_from}
 use Rattle.lnet_listed.proofs.Entries.{length-input_entries, length-map, entries-listed}
 use Rattle.lnet_netio.specs.Built.{signal_of, gate_of, input_nodes, gate_node, built_nodes, ref_of, gate_equation, entry_equation, exported}

@@ -1,15 +1,15 @@
 -- The network of a circuit whose wires are in order is a listed network.
-use Rattle.std.proofs.Common.{◌≡◌, ℕ, zero, suc, ◌+◌, ◌<◌, ◌≤◌, false, List, [], ◌∷◌, ◌++◌, length, map, refl, sym, ap, subst, ◌∙◌, arith}
+use Rattle.std.proofs.Common.{◌≡◌, ℕ, ◌+◌, List, [], ◌∷◌, ◌++◌, length, map, refl, sym, ap, subst, ◌∙◌, arith}
 use Rattle.std.specs.FinMap.{from_entries}
 use Rattle.std.specs.Ordering.{nat_cmp}
 use Rattle.lnet_gates.specs.declared.signal.Signal.{Signal}
 use Rattle.lnet_gates.specs.declared.gate.Kind.TheVariants.{Aig}
 use Rattle.lnet_gates.specs.Gates.{GateValue}
-use Rattle.lnet_model.specs.Networks.{Entry, Constant, Input, IsGate, NetworkValue}
+use Rattle.lnet_model.specs.Networks.{Entry, Constant, Input, IsGate}
 use Rattle.lnet_edge.specs.declared.circuit.InputPort.{InputPort}
 use Rattle.lnet_edge.specs.declared.circuit.OutputPort.{OutputPort}
 use Rattle.lnet_edge.specs.Circuits.{CircuitValue, EquationValue, AllFrom, IsInputAt, IsGateAt, IsOutputOf, IsInOrder}
-use Rattle.lnet_listed.specs.Listed.{numbered, numbers_from, input_entries, listed_entries, listed, and_gate, AreAndsFrom, AreUpTo, IsListed}
+use Rattle.lnet_listed.specs.Listed.{numbered, numbers_from, input_entries, listed_entries, listed, AreAndsFrom, AreUpTo, IsListed}
 use Rattle.lnet_listed.proofs.Numbered.{numbered-append}
 use Rattle.lnet_listed.proofs.Entries.{length-input_entries, length-map}
 use Rattle.lnet_netio.specs.Built.{signal_of, input_nodes, gate_node, built_nodes, built}

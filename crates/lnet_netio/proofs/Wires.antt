@@ -1,11 +1,11 @@
 -- What drives each wire of a circuit in order.
-use Rattle.std.proofs.Common.{◌≡◌, ◌≢◌, ℕ, zero, suc, ◌+◌, ◌<◌, ◌≤◌, ◌⊎◌, ◌==◌, true, false, List, [], ◌∷◌, length, slice_get, Option, Some, None, if◌then◌else◌, eqb, refl, sym, ap, subst, ◌∙◌, inl, inr, arith}
+use Rattle.std.proofs.Common.{◌≡◌, ◌≢◌, ℕ, zero, suc, ◌+◌, ◌<◌, ◌≤◌, ◌⊎◌, true, false, List, [], ◌∷◌, length, slice_get, Some, None, if◌then◌else◌, eqb, refl, ap, ◌∙◌, inl, inr, arith}
 use Rattle.std.proofs.lemmas.Bool.{ne_eqb}
 use Rattle.std.proofs.lemmas.Bool.Decides.{eqb_tells}
 use Rattle.lnet_edge.specs.declared.circuit.Rule.TheVariants.{And}
 use Rattle.lnet_edge.specs.declared.circuit.WireRef.{WireRef}
 use Rattle.lnet_edge.specs.declared.circuit.InputPort.{InputPort}
-use Rattle.lnet_edge.specs.Circuits.{CircuitValue, EquationValue, AllFrom, IsInputAt, IsGateAt, IsInOrder}
+use Rattle.lnet_edge.specs.Circuits.{EquationValue, AllFrom, IsInputAt, IsGateAt}
 use Rattle.lnet_edge.specs.Values.{input_place, equation_at}
 
 eqb_same : (p q : ℕ) → p ≡ q → eqb p q ≡ true

@@ -1,6 +1,6 @@
 -- A worked circuit: in the ASCII form of AIGER it has the header `aag 3 2 0 1 1`, the inputs 2 and 4, the output 7 and the
 -- gate `6 2 4`.
-use Rattle.std.specs.Prelude.{ℕ, Bool, true, false, None, List, [], ◌∷◌}
+use Rattle.std.specs.Prelude.{ℕ, Bool, true, false, None, [], ◌∷◌}
 use Rattle.lnet_edge.specs.declared.circuit.Rule.TheVariants.{And}
 use Rattle.lnet_edge.specs.declared.circuit.WireRef.{WireRef}
 use Rattle.lnet_edge.specs.Circuits.{CircuitValue}

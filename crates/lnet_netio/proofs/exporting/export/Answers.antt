@@ -1,4 +1,4 @@
-use Rattle.std.proofs.Common.{◌≡◌, ℕ, length, sym, ap, subst, ◌∙◌}
+use Rattle.std.proofs.Common.{◌≡◌, sym, ap, subst, ◌∙◌}
 use Rattle.lnet_edge.specs.Circuits.{IsInOrder}
 use Rattle.lnet_edge.specs.Values.{circuit_outputs}
 use Rattle.lnet_netio.specs.Built.{exported}

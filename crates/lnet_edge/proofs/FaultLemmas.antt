@@ -7,8 +7,9 @@ use Rattle.lnet_edge.specs.declared.circuit.WireRef.{WireRef}
 use Rattle.lnet_edge.specs.declared.circuit.Equation.{Equation}
 use Rattle.lnet_edge.specs.declared.circuit.InputPort.{InputPort}
 use Rattle.lnet_edge.specs.declared.circuit.OutputPort.{OutputPort}
+use Rattle.lnet_edge.specs.Circuits.{CircuitValue}
 use Rattle.lnet_edge.specs.CircuitLists.{equation_view, equation_views, listed_circuit}
-use Rattle.lnet_edge.specs.Wires.{operand_wires, output_wires, input_wires, targets, driven_wires, used_wires, IsUndriven, ComesBack}
+use Rattle.lnet_edge.specs.Wires.{operand_wires, output_wires, input_wires, targets, driven_wires, used_wires, IsUndriven, IsTwice, ComesBack}
 use Rattle.lnet_edge.specs.Drivers.{Drivers, is_driven, drives_operands, KnowsWires}
 
 -- ---- a test of each wire that is used
@@ -84,3 +85,18 @@ cyclic_by es near_es r es_are back found = subst (λ (fs : List Equation). (w : 
 
 pub acyclic_by : (es near_es : List Equation) (r : Bool) (w : ℕ) → near_es ≡ es → (r ≡ false → (v : ℕ) → ComesBack (equation_views near_es) v → ⊥) → r ≡ false → ComesBack (equation_views es) w → ⊥
 acyclic_by es near_es r w es_are none failed back = none failed w (subst (λ (fs : List Equation). ComesBack (equation_views fs) w) (sym es_are) back)
+
+-- what is known of the lists where each used wire is driven
+pub record Checked (c : CircuitValue) (twice : Bool) : Type 0 where
+  pub driven : ¬ (IsUndriven c)
+  pub repeated : twice ≡ true → IsTwice c
+  pub once : twice ≡ false → ¬ (IsTwice c)
+
+pub checked : (m : Drivers) (twice : Bool) (ins near_ins : List InputPort) (os near_os : List OutputPort) (es near_es nearer_es : List Equation) (r : Bool) → near_ins ≡ ins → near_os ≡ os → near_es ≡ es → nearer_es ≡ es → KnowsWires m twice (0 ∷ (input_wires near_ins ++ targets (equation_views near_es))) → r ≡ drives_all m near_os nearer_es → r ≡ true → Checked (listed_circuit ins os es) twice
+checked m twice ins near_ins os near_os es near_es nearer_es r ins_are os_are es_are es_are2 knows is passed =
+    let known = knows_of m twice ins near_ins os es near_es ins_are es_are knows in
+    record {
+      driven = none_undriven m twice ins os es r known (drives_of m os near_os es nearer_es r os_are es_are2 is) passed;
+      repeated = known.repeated;
+      once = known.single;
+    }

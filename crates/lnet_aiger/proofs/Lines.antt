@@ -1,5 +1,5 @@
 -- The two laws of reading: what is read is spelled so, and what is spelled so is read.
-use Rattle.std.proofs.Common.{◌≡◌, ℕ, zero, suc, ◌+◌, ◌*◌, ◌/◌, ◌%◌, ◌^◌, ◌<◌, ◌≤◌, Bool, true, false, cond, eqb, leb, List, [], ◌∷◌, ◌++◌, length, take, drop, get_or, Result, Ok, Err, refl, sym, ap, subst, ◌∙◌, append_assoc, arith}
+use Rattle.std.proofs.Common.{◌≡◌, ℕ, zero, suc, ◌+◌, ◌*◌, ◌/◌, ◌%◌, ◌^◌, ◌<◌, ◌≤◌, Bool, true, false, cond, eqb, leb, List, [], ◌∷◌, ◌++◌, length, take, drop, get_or, Option, None, Result, Ok, Err, refl, sym, ap, subst, ◌∙◌, append_assoc, arith}
 use Rattle.std.specs.Prelude.{◌&&◌}
 use Rattle.std.specs.List.{flat_map}
 use Rattle.std.specs.Fmt.{decimal}
@@ -120,10 +120,10 @@ field_again end n rest stop small =
 -- ---- lines
 
 abbrev pub input_port : ℕ → InputPort
-input_port wire = record { wire = record { 0 = wire } }
+input_port wire = record { wire = record { 0 = wire }; name = None }
 
 abbrev pub output_port : ℕ → OutputPort
-output_port n = record { source = ref_of n }
+output_port n = record { source = ref_of n; name = None }
 
 pub input_takes : (i : ℕ) (bytes : List ℕ) (x : InputPort × List ℕ) → input_at i bytes ≡ Ok x → (bytes ≡ input_line x.0 ++ x.1) × IsInputAt i x.0
 unfolding input_at
@@ -132,13 +132,15 @@ input_takes i bytes x e =
     let g = guard_ok (eqb a.0.0 (2 * i)) unbuilt (input_port i, a.0.1) x a.2 in
     let f = field_takes 10 bytes a.0 a.1 in
     let whole : bytes ≡ input_line (input_port i) ++ a.0.1 = f.0 ∙ ap (λ (k : ℕ). decimal k ++ 10 ∷ a.0.1) (eqb-true _ _ g.0) ∙ sym (append_assoc (decimal (2 * i)) (10 ∷ []) a.0.1) in
-    subst (λ (y : InputPort × List ℕ). (bytes ≡ input_line y.0 ++ y.1) × IsInputAt i y.0) g.1 (whole, refl)
+    subst (λ (y : InputPort × List ℕ). (bytes ≡ input_line y.0 ++ y.1) × IsInputAt i y.0) g.1 (whole, (refl, refl))
 
 pub input_again : (i : ℕ) (p : InputPort) (rest : List ℕ) → i < 65536 → IsInputAt i p → input_at i (input_line p ++ rest) ≡ Ok (p, rest)
 unfolding input_at
 input_again i p rest small at =
+    let wire : p.wire.0 ≡ i = at.0 in
     let same : eqb (2 * p.wire.0) (2 * i) ≡ true = grind (arith, nat_tests) in
-    ap (input_at i) (append_assoc (decimal (2 * p.wire.0)) (10 ∷ []) rest) ∙ rw (field_again 10 (2 * p.wire.0) rest refl (omega arith), same) (ap (λ (k : ℕ). Ok (input_port k, rest)) (sym at))
+    let made : ℕ → Option (List ℕ) → InputPort × List ℕ = λ w n. (record { wire = record { 0 = w }; name = n }, rest) in
+    ap (input_at i) (append_assoc (decimal (2 * p.wire.0)) (10 ∷ []) rest) ∙ rw (field_again 10 (2 * p.wire.0) rest refl (omega arith), same) (λ k. Ok (made (sym at.0 k) (sym at.1 k)))
 
 pub output_takes : (top i : ℕ) (bytes : List ℕ) (x : OutputPort × List ℕ) → output_at top i bytes ≡ Ok x → (bytes ≡ output_line x.0 ++ x.1) × IsOutputOf top i x.0
 unfolding output_at
@@ -148,4 +150,4 @@ output_takes top i bytes x e =
     let f = field_takes 10 bytes a.0 a.1 in
     let whole : bytes ≡ output_line (output_port a.0.0) ++ a.0.1 = f.0 ∙ ap (λ (k : ℕ). decimal k ++ 10 ∷ a.0.1) (sym (literal-ref_of a.0.0)) ∙ sym (append_assoc (decimal (literal (ref_of a.0.0))) (10 ∷ []) a.0.1) in
     let below : a.0.0 ≤ 2 * top + 1 = leb-true _ _ g.0 in
-    subst (λ (y : OutputPort × List ℕ). (bytes ≡ output_line y.0 ++ y.1) × IsOutputOf top i y.0) g.1 (whole, omega arith)
+    subst (λ (y : OutputPort × List ℕ). (bytes ≡ output_line y.0 ++ y.1) × IsOutputOf top i y.0) g.1 (whole, (omega arith, refl))

@@ -3,11 +3,10 @@ use Rattle.std.proofs.Common.{◌≡◌, ℕ, zero, suc, ◌+◌, ◌<◌, Bool,
 use Rattle.std.specs.Prelude.{◌&&◌}
 use Rattle.lnet_edge.specs.declared.circuit.WireRef.{WireRef}
 use Rattle.lnet_edge.specs.declared.circuit.OutputPort.{OutputPort}
-use Rattle.lnet_edge.specs.declared.circuit.Rule.{Rule}
 use Rattle.lnet_edge.specs.declared.circuit.Rule.TheVariants.{And}
 use Rattle.lnet_edge.specs.Circuits.{CircuitValue, EquationValue, AllFrom, IsGateAt, IsOutputOf, IsInOrder}
 use Rattle.lnet_aiger.specs.Spelling.{literal, greater_first, text_of}
-use Rattle.lnet_edge.specs.Values.{input_place, equation_at, complemented, under_rule, input_or, driven, wire_value, circuit_outputs}
+use Rattle.lnet_edge.specs.Values.{input_place, equation_at, complemented, all_bits, under_rule, input_or, driven, wire_value, circuit_outputs}
 use Rattle.lnet_aiger.specs.Meanings.{MeansSame}
 
 both_comm : (a b : Bool) → (a && (b && true)) ≡ (b && (a && true))
@@ -20,21 +19,18 @@ map_same : (v w : WireRef → Bool) → ((r : WireRef) → v r ≡ w r) → (rs 
 map_same v w h [] = refl
 map_same v w h (r ∷ rs) = ap (λ (b : Bool). b ∷ map v rs) (h r) ∙ ap (λ (bs : List Bool). w r ∷ bs) (map_same v w h rs)
 
-two : (v : WireRef → Bool) (t : ℕ) (rule : Rule) (a b : WireRef) (test : Bool) → under_rule rule (map v (cond test (b ∷ a ∷ []) (a ∷ b ∷ []))) ≡ under_rule rule (map v (a ∷ b ∷ []))
-two v t (And c) a b true = ap (complemented c) (both_comm (v b) (v a))
-two v t (And c) a b false = refl
+two : (v : WireRef → Bool) (a b : WireRef) (test : Bool) → all_bits (map v (cond test (b ∷ a ∷ []) (a ∷ b ∷ []))) ≡ all_bits (map v (a ∷ b ∷ []))
+two v a b true = both_comm (v b) (v a)
+two v a b false = refl
 
-swapped_value : (v : WireRef → Bool) (t : ℕ) (rule : Rule) (rs : List WireRef) → driven v (Some (greater_first (record { target = t; rule = rule; operands = rs }))) ≡ driven v (Some (record { target = t; rule = rule; operands = rs }))
-swapped_value v t rule [] = refl
-swapped_value v t rule (a ∷ []) = refl
-swapped_value v t rule (a ∷ b ∷ []) = two v t rule a b (ltb (literal a) (literal b))
-swapped_value v t rule (a ∷ b ∷ c ∷ rs) = refl
+swapped_value : (v : WireRef → Bool) (i : ℕ) (e : EquationValue) → IsGateAt i e → driven v (Some (greater_first e)) ≡ driven v (Some e)
+swapped_value v i e g = subst (λ (z : EquationValue). driven v (Some (greater_first z)) ≡ driven v (Some z)) (sym g.2) (two v g.0 g.1 (ltb (literal g.0) (literal g.1)))
 
-found_same : (v w : WireRef → Bool) → ((r : WireRef) → v r ≡ w r) → (x : ℕ) (es : List EquationValue) → driven v (equation_at x (map greater_first es)) ≡ driven w (equation_at x es)
-found_same v w h x [] = refl
-found_same v w h x (e ∷ es) = by_test (found_same v w h x es) (eqb e.target x) where
+found_same : (v w : WireRef → Bool) → ((r : WireRef) → v r ≡ w r) → (i x : ℕ) (es : List EquationValue) → AllFrom IsGateAt i es → driven v (equation_at x (map greater_first es)) ≡ driven w (equation_at x es)
+found_same v w h i x [] all = refl
+found_same v w h i x (e ∷ es) all = by_test (found_same v w h (i + 1) x es all.1) (eqb e.target x) where
   here : driven v (Some (greater_first e)) ≡ driven w (Some e)
-  here = swapped_value v e.target e.rule e.operands ∙ ap (under_rule e.rule) (map_same v w h e.operands)
+  here = swapped_value v i e all.0 ∙ ap (under_rule e.rule) (map_same v w h e.operands)
 
   by_test : driven v (equation_at x (map greater_first es)) ≡ driven w (equation_at x es) → (t : Bool) → driven v (cond t (Some (greater_first e)) (equation_at x (map greater_first es))) ≡ driven w (cond t (Some e) (equation_at x es))
   by_test rest true = here
@@ -44,11 +40,11 @@ found_same v w h x (e ∷ es) = by_test (found_same v w h x es) (eqb e.target x)
 abbrev pub ordered : CircuitValue → CircuitValue
 ordered c = record c { equations = map greater_first c.equations }
 
-value_same : (n : ℕ) (c : CircuitValue) (a : ℕ → Bool) (w : ℕ) → wire_value n (ordered c) a w ≡ wire_value n c a w
+value_same : (n : ℕ) (c : CircuitValue) → IsInOrder c → (a : ℕ → Bool) (w : ℕ) → wire_value n (ordered c) a w ≡ wire_value n c a w
 unfolding wire_value
-value_same zero c a w = refl
-value_same (suc n) c a w =
-    ap (input_or (input_place 0 w c.inputs) a) (found_same (λ r. complemented r.complement (wire_value n (ordered c) a r.wire.0)) (λ r. complemented r.complement (wire_value n c a r.wire.0)) (λ r. ap (complemented r.complement) (value_same n c a r.wire.0)) w c.equations)
+value_same zero c is a w = refl
+value_same (suc n) c is a w =
+    ap (input_or (input_place 0 w c.inputs) a) (found_same (λ r. complemented r.complement (wire_value n (ordered c) a r.wire.0)) (λ r. complemented r.complement (wire_value n c a r.wire.0)) (λ r. ap (complemented r.complement) (value_same n c is a r.wire.0)) (length c.inputs + 1) w c.equations is.gates)
 
 gates_kept : (i : ℕ) (es : List EquationValue) → AllFrom IsGateAt i es → AllFrom IsGateAt i (map greater_first es)
 gates_kept i [] all = tt
@@ -68,9 +64,9 @@ outputs_same : (v w : WireRef → Bool) → ((r : WireRef) → v r ≡ w r) → 
 outputs_same v w h [] = refl
 outputs_same v w h (p ∷ ps) = ap (λ (b : Bool). b ∷ map (λ (q : OutputPort). v q.source) ps) (h p.source) ∙ ap (λ (bs : List Bool). w p.source ∷ bs) (outputs_same v w h ps)
 
-same_at : (c : CircuitValue) (a : ℕ → Bool) → circuit_outputs (ordered c) a ≡ circuit_outputs c a
+same_at : (c : CircuitValue) → IsInOrder c → (a : ℕ → Bool) → circuit_outputs (ordered c) a ≡ circuit_outputs c a
 unfolding circuit_outputs
-same_at c a = outputs_same (λ r. complemented r.complement (wire_value (suc (length (map greater_first c.equations))) (ordered c) a r.wire.0)) (λ r. complemented r.complement (wire_value (suc (length c.equations)) c a r.wire.0)) (λ r. ap (complemented r.complement) (ap (λ (k : ℕ). wire_value (suc k) (ordered c) a r.wire.0) (length_kept c.equations) ∙ value_same (suc (length c.equations)) c a r.wire.0)) c.outputs
+same_at c is a = outputs_same (λ r. complemented r.complement (wire_value (suc (length (map greater_first c.equations))) (ordered c) a r.wire.0)) (λ r. complemented r.complement (wire_value (suc (length c.equations)) c a r.wire.0)) (λ r. ap (complemented r.complement) (ap (λ (k : ℕ). wire_value (suc k) (ordered c) a r.wire.0) (length_kept c.equations) ∙ value_same (suc (length c.equations)) c is a r.wire.0)) c.outputs
 
 ordered_kept : (c : CircuitValue) → IsInOrder c → IsInOrder (ordered c)
 ordered_kept c is =
@@ -85,7 +81,7 @@ ordered_kept c is =
 
 -- the text of a circuit means one with the same outputs
 pub means_same : (c : CircuitValue) → IsInOrder c → MeansSame (text_of c) c
-means_same c is = (ordered c, (ordered_kept c is, refl), same_at c)
+means_same c is = (ordered c, (ordered_kept c is, refl), same_at c is)
 
 -- so do bytes that are this text
 pub text_means_same : (bytes : List ℕ) (c : CircuitValue) → bytes ≡ text_of c → IsInOrder c → MeansSame bytes c

@@ -1,5 +1,5 @@
 -- A whole circuit, read from its text.
-use Rattle.std.proofs.Common.{◌≡◌, ℕ, ◌+◌, ◌*◌, ◌<◌, ◌≤◌, Bool, true, false, cond, eqb, ltb, leb, List, [], ◌∷◌, ◌++◌, length, take, drop, Ok, Err, refl, sym, ap, subst, ◌∙◌, append_assoc, arith}
+use Rattle.std.proofs.Common.{◌≡◌, ℕ, ◌+◌, ◌*◌, ◌<◌, ◌≤◌, Bool, true, false, cond, eqb, ltb, leb, List, [], ◌∷◌, ◌++◌, length, take, drop, Option, Ok, Err, refl, sym, ap, subst, ◌∙◌, append_assoc, arith}
 use Rattle.std.specs.Prelude.{◌&&◌, nat_eq}
 use Rattle.std.specs.List.{starts_with}
 use Rattle.std.specs.Cmp.Lexicographic.{pointwise}
@@ -86,13 +86,11 @@ pub output_again : (top i : ℕ) (p : OutputPort) (rest : List ℕ) → top < 65
 unfolding output_at
 output_again top i p rest small below =
     let r = p.source in
-    let lit = literal_bound top r below in
+    let lit = literal_bound top r below.0 in
+    let made : WireRef → Option (List ℕ) → OutputPort × List ℕ = λ q n. (record { source = q; name = n }, rest) in
     let ok : leb (literal r) (2 * top + 1) ≡ true = grind (arith, nat_tests) in
-    ap (output_at top i) (append_assoc (decimal (literal r)) (10 ∷ []) rest) ∙ rw (field_again 10 (literal r) rest refl (omega arith), ok) (ap (λ (k : WireRef). Ok (port k, rest)) (ref_of-literal r))
+    ap (output_at top i) (append_assoc (decimal (literal r)) (10 ∷ []) rest) ∙ rw (field_again 10 (literal r) rest refl (omega arith), ok) (λ k. Ok (made (ref_of-literal r k) (sym below.1 k)))
   where
-    port : WireRef → OutputPort
-    port source = record { source = source }
-
     bound_by : (w : ℕ) (b : Bool) → cond b (2 * w + 1) (2 * w) ≤ 2 * w + 1
     bound_by w true = omega arith
     bound_by w false = omega arith

@@ -1,5 +1,5 @@
 -- Reading the ASCII form of AIGER from left to right: what each part of the text gives, and what is behind it.
-use Rattle.std.specs.Prelude.{◌≡◌, ℕ, zero, suc, ◌+◌, ◌*◌, ◌/◌, ◌%◌, ◌^◌, Bool, false, not, ◌&&◌, List, [], ◌∷◌, length, take, drop, slice_index, Result, Ok, Err, nat_lt, nat_le, nat_eq, ◌==◌, if◌then◌else◌, codes}
+use Rattle.std.specs.Prelude.{◌≡◌, ℕ, zero, suc, ◌+◌, ◌*◌, ◌/◌, ◌%◌, ◌^◌, Bool, false, not, ◌&&◌, List, [], ◌∷◌, length, take, drop, slice_index, Result, Ok, Err, None, nat_lt, nat_le, nat_eq, ◌==◌, if◌then◌else◌, codes}
 use Rattle.std.specs.List.{starts_with, prefix_len}
 use Rattle.std.specs.Char.{is_ascii_digit}
 use Rattle.std.specs.Str.Parse.{digits_value}
@@ -75,13 +75,13 @@ ref_of n = record { wire = record { 0 = n / 2 }; complement = n % 2 == 1 }
 unfoldable pub input_at : ℕ → List ℕ → Result (InputPort × List ℕ) Malformed
 input_at wire bytes = do
   n ← field_at 10 bytes
-  if n.0 == 2 * wire then Ok (record { wire = record { 0 = wire } }, n.1) else Err unbuilt
+  if n.0 == 2 * wire then Ok (record { wire = record { 0 = wire }; name = None }, n.1) else Err unbuilt
 
 -- an output's line, its literal up to that of the complement of the last wire
 unfoldable pub output_at : ℕ → ℕ → List ℕ → Result (OutputPort × List ℕ) Malformed
 output_at top place bytes = do
   n ← field_at 10 bytes
-  if nat_le n.0 (2 * top + 1) then Ok (record { source = ref_of n.0 }, n.1) else Err unbuilt
+  if nat_le n.0 (2 * top + 1) then Ok (record { source = ref_of n.0; name = None }, n.1) else Err unbuilt
 
 -- a gate's line, both operands below it
 unfoldable pub gate_at : ℕ → List ℕ → Result (EquationValue × List ℕ) Malformed

@@ -124,7 +124,11 @@ fn read_input(wire: u32, bytes: &[u8]) -> Result<(InputPort, &[u8]), ReadError>
 {
     let (literal, rest) = field(bytes, b'\n')?;
     if literal == 2 * wire {
-        Ok((InputPort { wire: Wire(wire) }, rest))
+        let port = InputPort {
+            wire: Wire(wire),
+            name: None,
+        };
+        Ok((port, rest))
     } else {
         Err(ReadError::Malformed(UNBUILT))
     }
@@ -138,7 +142,8 @@ fn read_output(top: u32, place: u32, bytes: &[u8]) -> Result<(OutputPort, &[u8])
     let (literal, rest) = field(bytes, b'\n')?;
     if literal <= 2 * top + 1 {
         let source = reference(literal);
-        Ok((OutputPort { source }, rest))
+        let port = OutputPort { source, name: None };
+        Ok((port, rest))
     } else {
         Err(ReadError::Malformed(UNBUILT))
     }

@@ -94,8 +94,8 @@ fn put_equations(out: &mut String, equations: &[Equation]) -> Result<(), AllocEr
 
 /// The text of a circuit, behind what stands there.
 fn put_circuit(out: &mut String, circuit: &Circuit) -> Result<(), AllocError>
-    ensures text { OnOk result (string_bytes out.new ≡ string_bytes out.old ++ text_of circuit.now) }
-    ensures in_order { IsInOrder circuit.now }
+    requires { IsInOrder circuit.now }
+    ensures { OnOk result (string_bytes out.new ≡ string_bytes out.old ++ text_of circuit.now) }
 {
     put_header(
         out,
@@ -110,11 +110,14 @@ fn put_circuit(out: &mut String, circuit: &Circuit) -> Result<(), AllocError>
 
 /// Writes a circuit in the ASCII form of AIGER, the greater operand literal of each gate first.
 ///
-/// `alloc` is where the bytes are kept. Time and memory are linear in the size of the circuit.
+/// `alloc` is where the bytes are kept. The circuit is numbered in order, as `Circuit::in_order` makes it. Time and memory
+/// are linear in the size of the circuit.
 ///
 /// # Errors
 /// `AllocError` where memory runs out.
 pub fn write_ascii(alloc: Global, circuit: &Circuit) -> Result<Vec<u8>, AllocError>
+    // The circuit is one of this form.
+    requires { IsInOrder circuit.now }
     // The bytes are the circuit's text.
     ensures text { IfOk result (λ v. v.items ≡ text_of circuit.now) }
     // The bytes mean a circuit with the same outputs under each assignment of the inputs.

@@ -1,5 +1,5 @@
 -- Circuits as contracts see them: inputs, equations and outputs, by wires.
-use Rattle.std.specs.Prelude.{◌≡◌, ℕ, ◌+◌, ◌<◌, ◌≤◌, false, List, [], ◌∷◌, length}
+use Rattle.std.specs.Prelude.{◌≡◌, ℕ, ◌+◌, ◌<◌, ◌≤◌, false, List, [], ◌∷◌, length, None}
 use Rattle.lnet_edge.specs.declared.circuit.Rule.{Rule}
 use Rattle.lnet_edge.specs.declared.circuit.Rule.TheVariants.{And}
 use Rattle.lnet_edge.specs.declared.circuit.WireRef.{WireRef}
@@ -23,19 +23,19 @@ abbrev pub AllFrom : {A : Type 0} → (ℕ → A → Type 0) → ℕ → List A 
 AllFrom P i [] = Unit {0}
 AllFrom P i (x ∷ xs) = P i x × AllFrom P (i + 1) xs
 
--- the input drives this wire
+-- the input drives this wire, and has no name
 abbrev pub IsInputAt : ℕ → InputPort → Type 0
-IsInputAt i p = p.wire.0 ≡ i
+IsInputAt i p = (p.wire.0 ≡ i) × (p.name ≡ None)
 
 -- an And of two operands, each a wire below the target
 abbrev pub IsGateAt : ℕ → EquationValue → Type 0
 IsGateAt target e = (a : WireRef) × (b : WireRef) × (e ≡ record { target = target; rule = And false; operands = a ∷ b ∷ [] }) × (a.wire.0 < target) × (b.wire.0 < target)
 
--- an output of a wire up to the last
+-- an output of a wire up to the last, without a name
 abbrev pub IsOutputOf : ℕ → ℕ → OutputPort → Type 0
-IsOutputOf top i p = p.source.wire.0 ≤ top
+IsOutputOf top i p = (p.source.wire.0 ≤ top) × (p.name ≡ None)
 
--- wires are numbered from 1 without a gap: the inputs first, and then each gate after those it uses
+-- wires are numbered from 1 without a gap: the inputs first, and then each gate after those it uses; nothing has a name
 pub record IsInOrder (c : CircuitValue) : Type 0 where
   pub inputs : AllFrom IsInputAt 1 c.inputs
   pub gates : AllFrom IsGateAt (length c.inputs + 1) c.equations

@@ -3,7 +3,12 @@ pub mod Faults
 pub mod Disk
 pub mod Memory
 pub mod MemorySinks
+pub mod Covers
 pub mod Circuits
 pub mod CircuitLists
+pub mod Wires
+pub mod Drivers
+pub mod Searches
+pub mod Plain
 pub mod Values
 pub mod Names

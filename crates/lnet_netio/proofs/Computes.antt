@@ -1,5 +1,5 @@
 -- The network of a circuit computes what the circuit computes, and is exported to that circuit again.
-use Rattle.std.proofs.Common.{◌≡◌, ℕ, zero, suc, ◌+◌, ◌-◌, ◌<◌, ◌≤◌, ◌⊎◌, Bool, true, false, not, ◌&&◌, List, [], ◌∷◌, length, map, flat_map, slice_get, None, Some, refl, sym, ap, subst, ◌∙◌, inl, inr, arith}
+use Rattle.std.proofs.Common.{◌≡◌, ℕ, zero, suc, ◌+◌, ◌<◌, ◌≤◌, ◌⊎◌, Bool, true, false, ◌&&◌, List, [], ◌∷◌, length, map, flat_map, slice_get, Some, refl, sym, ap, subst, ◌∙◌, inl, inr, arith}
 use Rattle.std.proofs.lemmas.Option.{slice_get-map}
 use Rattle.std.specs.Option.{option_map}
 use Rattle.std.specs.FinMap.{entries, from_entries}
@@ -20,7 +20,7 @@ use Rattle.lnet_listed.proofs.Entries.{length-map}
 use Rattle.lnet_listed.proofs.Whole.{listed-Acyclic}
 use Rattle.lnet_listed.proofs.NodeValues.{constant_value, input_value, and_value}
 use Rattle.lnet_netio.specs.Built.{signal_of, built_nodes, built, entry_equation, exported}
-use Rattle.lnet_netio.specs.Parts.{equation_gate, port_signal, port_of, output_of}
+use Rattle.lnet_netio.specs.Parts.{equation_gate, port_signal, port_of}
 use Rattle.lnet_netio.proofs.Numbering.{gates_of, signals_of, nodes-numbered, built-listed, listed-fits}
 use Rattle.lnet_netio.proofs.Exports.{ports-again, outputs-again, equations-again, circuit_of, exported-listed, circuit-in_order, gates_of-equations, signals-again}
 use Rattle.lnet_netio.proofs.Wires.{input_place-none, input_place-some, equation_at-none, equation_at-some, gate_at_place}
@@ -108,7 +108,7 @@ wire_values c a ord (suc n) w deep top = any_wire c a ord (suc n) w top (λ j e 
 
 outputs_agree : (c : CircuitValue) (a : ℕ → Bool) → IsInOrder c → (i : ℕ) (ps : List OutputPort) → AllFrom (IsOutputOf (length c.inputs + length c.equations)) i ps → map (signal_value (listing c) a) (map port_signal ps) ≡ map (λ (p : OutputPort). ref_value c a p.source) ps
 outputs_agree c a ord i [] at = refl
-outputs_agree c a ord i (p ∷ ps) at = λ k. sym (operand c a (suc (length c.equations)) p.source (wire_values c a ord (length c.equations) p.source.wire.0 at.0 at.0)) k ∷ outputs_agree c a ord (i + 1) ps at.1 k
+outputs_agree c a ord i (p ∷ ps) at = λ k. sym (operand c a (suc (length c.equations)) p.source (wire_values c a ord (length c.equations) p.source.wire.0 at.0.0 at.0.0)) k ∷ outputs_agree c a ord (i + 1) ps at.1 k
 
 listing-outputs : (c : CircuitValue) (a : ℕ → Bool) → IsInOrder c → network_outputs (listing c) a ≡ circuit_outputs c a
 unfolding network_outputs circuit_outputs listed
@@ -125,9 +125,9 @@ entries-built c ord =
 
 pub exported-built : (c : CircuitValue) → IsInOrder c → exported (built c) ≡ c
 exported-built c ord = λ i. record {
-  inputs = ports-again c.inputs i;
-  outputs = outputs-again c.outputs i;
-  equations = (ap (flat_map entry_equation) (entries-built c ord) ∙ equations-again c) i;
+  inputs = ports-again 1 c.inputs ord.inputs i;
+  outputs = outputs-again _ 0 c.outputs ord.outputs i;
+  equations = (ap (flat_map entry_equation) (entries-built c ord) ∙ equations-again c ord) i;
 }
 
 -- ---- what a listed network is exported to builds it again, and computes what it computes

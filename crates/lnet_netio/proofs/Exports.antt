@@ -1,18 +1,16 @@
 -- The circuit that a listed network is exported to: its equations, that it is in order, and that it builds the network again.
-use Rattle.std.proofs.Common.{◌≡◌, ℕ, zero, suc, ◌+◌, ◌<◌, ◌≤◌, false, List, [], ◌∷◌, ◌++◌, length, map, flat_map, refl, sym, ap, subst, ◌∙◌, add-zero, arith}
+use Rattle.std.proofs.Common.{◌≡◌, ℕ, zero, suc, ◌+◌, Bool, false, Option, List, [], ◌∷◌, ◌++◌, length, map, flat_map, refl, sym, ap, subst, ◌∙◌, add-zero, arith}
 use Rattle.std.proofs.lemmas.List.Concat.{flat_map-cons}
 use Rattle.std.proofs.lemmas.Grind.{flat_map-append}
-use Rattle.std.specs.FinMap.{entries}
 use Rattle.lnet_gates.specs.declared.signal.Signal.{Signal}
 use Rattle.lnet_gates.specs.Gates.{GateValue}
-use Rattle.lnet_model.specs.Networks.{Entry, Constant, Input, IsGate, NetworkValue}
-use Rattle.lnet_edge.specs.declared.circuit.Rule.{Rule}
+use Rattle.lnet_model.specs.Networks.{Constant, Input, IsGate}
 use Rattle.lnet_edge.specs.declared.circuit.Rule.TheVariants.{And}
 use Rattle.lnet_edge.specs.declared.circuit.WireRef.{WireRef}
 use Rattle.lnet_edge.specs.declared.circuit.InputPort.{InputPort}
 use Rattle.lnet_edge.specs.declared.circuit.OutputPort.{OutputPort}
 use Rattle.lnet_edge.specs.Circuits.{CircuitValue, EquationValue, AllFrom, IsInputAt, IsGateAt, IsOutputOf, IsInOrder}
-use Rattle.lnet_listed.specs.Listed.{numbered, numbers_from, input_entries, listed_entries, listed, and_gate, IsAndAt, AreAndsFrom, AreUpTo, IsListed}
+use Rattle.lnet_listed.specs.Listed.{numbered, numbers_from, input_entries, listed_entries, listed, IsAndAt, AreAndsFrom, AreUpTo, IsListed}
 use Rattle.lnet_listed.proofs.Numbered.{numbered-append, length-numbers_from}
 use Rattle.lnet_listed.proofs.Entries.{length-input_entries, length-map, entries-listed}
 use Rattle.lnet_netio.specs.Built.{signal_of, gate_of, input_nodes, gate_node, built_nodes, ref_of, gate_equation, entry_equation, exported}
@@ -24,34 +22,41 @@ refs-again : (rs : List WireRef) → map ref_of (map signal_of rs) ≡ rs
 refs-again [] = refl
 refs-again (r ∷ rs) = ap (λ qs. r ∷ qs) (refs-again rs)
 
-equation-again : (n : ℕ) (r : Rule) (os : List WireRef) → gate_equation n (gate_of r os).op (gate_of r os) ≡ record { target = n; rule = r; operands = os } ∷ []
-equation-again n (And f) os = ap (λ qs. record { target = n; rule = And f; operands = qs } ∷ []) (refs-again os)
+and-again : (n : ℕ) (f : Bool) (os : List WireRef) → gate_equation n (gate_of (And f) os).op (gate_of (And f) os) ≡ record { target = n; rule = And f; operands = os } ∷ []
+and-again n f os = ap (λ qs. record { target = n; rule = And f; operands = qs } ∷ []) (refs-again os)
 
-pub gates-again : (es : List EquationValue) → flat_map entry_equation (map gate_node es) ≡ es
-gates-again [] = refl
-gates-again (e ∷ es) =
+equation-again : (n : ℕ) (e : EquationValue) → IsGateAt n e → gate_equation e.target (gate_of e.rule e.operands).op (gate_of e.rule e.operands) ≡ e ∷ []
+equation-again n e at = subst (λ (z : EquationValue). gate_equation z.target (gate_of z.rule z.operands).op (gate_of z.rule z.operands) ≡ z ∷ []) (sym at.2) (and-again n false (at.0 ∷ at.1 ∷ []))
+
+pub gates-again : (n : ℕ) (es : List EquationValue) → AllFrom IsGateAt n es → flat_map entry_equation (map gate_node es) ≡ es
+gates-again n [] at = refl
+gates-again n (e ∷ es) at =
     flat_map-cons entry_equation (gate_node e) (map gate_node es)
-    ∙ ap (λ (qs : List EquationValue). qs ++ flat_map entry_equation (map gate_node es)) (equation-again e.target e.rule e.operands)
-    ∙ ap (λ qs. e ∷ qs) (gates-again es)
+    ∙ ap (λ (qs : List EquationValue). qs ++ flat_map entry_equation (map gate_node es)) (equation-again n e at.0)
+    ∙ ap (λ qs. e ∷ qs) (gates-again (n + 1) es at.1)
 
 inputs-unequal : (k : ℕ) (ps : List InputPort) → flat_map entry_equation (input_nodes k ps) ≡ []
 inputs-unequal k [] = refl
 inputs-unequal k (p ∷ ps) = flat_map-cons entry_equation (p.wire.0, Input k) (input_nodes (k + 1) ps) ∙ inputs-unequal (k + 1) ps
 
-pub equations-again : (c : CircuitValue) → flat_map entry_equation (built_nodes c) ≡ c.equations
-equations-again c =
+pub equations-again : (c : CircuitValue) → IsInOrder c → flat_map entry_equation (built_nodes c) ≡ c.equations
+equations-again c ord =
     flat_map-cons entry_equation (0, Constant) (input_nodes 0 c.inputs ++ map gate_node c.equations)
     ∙ flat_map-append entry_equation (input_nodes 0 c.inputs) (map gate_node c.equations)
     ∙ ap (λ (qs : List EquationValue). qs ++ flat_map entry_equation (map gate_node c.equations)) (inputs-unequal 0 c.inputs)
-    ∙ gates-again c.equations
+    ∙ gates-again (length c.inputs + 1) c.equations ord.gates
 
-pub ports-again : (ps : List InputPort) → map port_of (map (λ (p : InputPort). p.wire.0) ps) ≡ ps
-ports-again [] = refl
-ports-again (p ∷ ps) = ap (λ qs. p ∷ qs) (ports-again ps)
+pub ports-again : (n : ℕ) (ps : List InputPort) → AllFrom IsInputAt n ps → map port_of (map (λ (p : InputPort). p.wire.0) ps) ≡ ps
+ports-again n [] at = refl
+ports-again n (p ∷ ps) at =
+    let named : Option (List ℕ) → InputPort = λ name. record { wire = p.wire; name = name } in
+    λ i. named (sym at.0.1 i) ∷ ports-again (n + 1) ps at.1 i
 
-pub outputs-again : (ps : List OutputPort) → map output_of (map (λ (p : OutputPort). signal_of p.source) ps) ≡ ps
-outputs-again [] = refl
-outputs-again (p ∷ ps) = ap (λ qs. p ∷ qs) (outputs-again ps)
+pub outputs-again : (top i : ℕ) (ps : List OutputPort) → AllFrom (IsOutputOf top) i ps → map output_of (map (λ (p : OutputPort). signal_of p.source) ps) ≡ ps
+outputs-again top i [] at = refl
+outputs-again top i (p ∷ ps) at =
+    let named : Option (List ℕ) → OutputPort = λ name. record { source = p.source; name = name } in
+    λ k. named (sym at.0.1 k) ∷ outputs-again top (i + 1) ps at.1 k
 
 -- ---- what a listed network is exported to
 
@@ -104,7 +109,7 @@ exported-listed inputs gates outputs are =
 
 inputs-in_order : (n count : ℕ) → AllFrom IsInputAt n (map port_of (numbers_from n count))
 inputs-in_order n zero = tt
-inputs-in_order n (suc count) = (refl, inputs-in_order (n + 1) count)
+inputs-in_order n (suc count) = ((refl, refl), inputs-in_order (n + 1) count)
 
 gates-in_order : (n : ℕ) (gs : List GateValue) → AreAndsFrom n gs → AllFrom IsGateAt n (equations_from n gs)
 gates-in_order n [] are = tt
@@ -112,7 +117,7 @@ gates-in_order n (g ∷ gs) ((x, y, is, low, low2), rest) = ((ref_of x, ref_of y
 
 outputs-in_order : (top i : ℕ) (ss : List Signal) → AreUpTo top ss → AllFrom (IsOutputOf top) i (map output_of ss)
 outputs-in_order top i [] are = tt
-outputs-in_order top i (s ∷ ss) are = (are.0, outputs-in_order top (i + 1) ss are.1)
+outputs-in_order top i (s ∷ ss) are = ((are.0, refl), outputs-in_order top (i + 1) ss are.1)
 
 pub circuit-in_order : (inputs : ℕ) (gates : List GateValue) (outputs : List Signal) → IsListed inputs gates outputs → IsInOrder (circuit_of inputs gates outputs)
 circuit-in_order inputs gates outputs fit =

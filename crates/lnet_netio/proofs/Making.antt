@@ -1,6 +1,6 @@
 -- What build and export make, over the lists that they make it of.
-use Rattle.std.proofs.Common.{◌≡◌, ℕ, zero, suc, ◌+◌, ◌<◌, ◌≤◌, List, [], ◌∷◌, ◌++◌, length, map, get_or, take, refl, sym, ap, subst, ◌∙◌, arith}
-use Rattle.std.proofs.lemmas.List.{map-append}
+use Rattle.std.proofs.Common.{◌≡◌, ℕ, zero, suc, ◌+◌, ◌<◌, List, [], ◌∷◌, ◌++◌, length, map, get_or, take, refl, sym, ap, subst, ◌∙◌, arith}
+use Rattle.std.proofs.lemmas.List.{map-append, take_more}
 use Rattle.lnet_gates.specs.declared.signal.Signal.{Signal}
 use Rattle.lnet_gates.specs.Gates.{GateValue}
 use Rattle.lnet_model.specs.Networks.{NetworkValue}
@@ -10,7 +10,7 @@ use Rattle.lnet_edge.specs.declared.circuit.OutputPort.{OutputPort}
 use Rattle.lnet_edge.specs.Circuits.{CircuitValue, EquationValue, AllFrom, IsGateAt, IsInOrder}
 use Rattle.lnet_edge.specs.CircuitLists.{equation_view, equation_views}
 use Rattle.lnet_listed.specs.Listed.{numbers_from, listed, IsListed}
-use Rattle.lnet_netio.specs.Built.{built, exported}
+use Rattle.lnet_netio.specs.Built.{signal_of, built, exported}
 use Rattle.lnet_netio.specs.Parts.{equation_gate, port_signal, FitsGate, port_of, output_of, equation_of, equations_from}
 use Rattle.lnet_netio.proofs.Numbering.{gates_of, signals_of, built-listed, listed-fits}
 use Rattle.lnet_netio.proofs.Exports.{circuit_of, exported-listed}
@@ -28,6 +28,14 @@ fits-gates n (e ∷ es) at (suc k) d h = fits-gates (n + 1) es at.1 k d (omega a
 gates_of-views : (es : List Equation) → map (λ e. equation_gate (equation_view e)) es ≡ map equation_gate (equation_views es)
 gates_of-views [] = refl
 gates_of-views (e ∷ es) = ap (λ gs. equation_gate (equation_view e) ∷ gs) (gates_of-views es)
+
+pub signals-step : (ps : List OutputPort) (i : ℕ) (p : OutputPort) (s : Signal) (before after : List Signal) → i < length ps → p ≡ get_or ps i p → s ≡ signal_of p.source → before ≡ map port_signal (take i ps) → after ≡ before ++ s ∷ [] → after ≡ map port_signal (take (i + 1) ps)
+signals-step ps i p s before after h is at made pushed =
+    pushed
+    ∙ ap (λ (ss : List Signal). ss ++ s ∷ []) made
+    ∙ ap (λ (q : Signal). map port_signal (take i ps) ++ q ∷ []) (at ∙ ap port_signal is)
+    ∙ sym (map-append port_signal (take i ps) (get_or ps i p ∷ []))
+    ∙ ap (map port_signal) (sym (take_more ps i p h))
 
 -- the lists that build makes of the circuit c
 pub record IsMadeOf (c : CircuitValue) (inputs : ℕ) (gates : List GateValue) (outputs : List Signal) : Type 0 where

@@ -1,15 +1,15 @@
 -- The network of a circuit whose wires are in order is a listed network.
-use Rattle.std.proofs.Common.{◌≡◌, ℕ, zero, suc, ◌+◌, ◌<◌, ◌≤◌, false, List, [], ◌∷◌, ◌++◌, length, map, refl, sym, ap, subst, ◌∙◌, arith}
+use Rattle.std.proofs.Common.{◌≡◌, ℕ, ◌+◌, List, [], ◌∷◌, ◌++◌, length, map, refl, sym, ap, subst, ◌∙◌, arith}
 use Rattle.std.specs.FinMap.{from_entries}
 use Rattle.std.specs.Ordering.{nat_cmp}
 use Rattle.lnet_gates.specs.declared.signal.Signal.{Signal}
 use Rattle.lnet_gates.specs.declared.gate.Kind.TheVariants.{Aig}
 use Rattle.lnet_gates.specs.Gates.{GateValue}
-use Rattle.lnet_model.specs.Networks.{Entry, Constant, Input, IsGate, NetworkValue}
+use Rattle.lnet_model.specs.Networks.{Entry, Constant, Input, IsGate}
 use Rattle.lnet_edge.specs.declared.circuit.InputPort.{InputPort}
 use Rattle.lnet_edge.specs.declared.circuit.OutputPort.{OutputPort}
 use Rattle.lnet_edge.specs.Circuits.{CircuitValue, EquationValue, AllFrom, IsInputAt, IsGateAt, IsOutputOf, IsInOrder}
-use Rattle.lnet_listed.specs.Listed.{numbered, numbers_from, input_entries, listed_entries, listed, and_gate, AreAndsFrom, AreUpTo, IsListed}
+use Rattle.lnet_listed.specs.Listed.{numbered, numbers_from, input_entries, listed_entries, listed, AreAndsFrom, AreUpTo, IsListed}
 use Rattle.lnet_listed.proofs.Numbered.{numbered-append}
 use Rattle.lnet_listed.proofs.Entries.{length-input_entries, length-map}
 use Rattle.lnet_netio.specs.Built.{signal_of, input_nodes, gate_node, built_nodes, built}
@@ -24,7 +24,7 @@ signals_of c = map port_signal c.outputs
 
 inputs-numbered : (k : ℕ) (ps : List InputPort) → AllFrom IsInputAt (k + 1) ps → input_nodes k ps ≡ numbered (k + 1) (input_entries k (length ps))
 inputs-numbered k [] at = refl
-inputs-numbered k (p ∷ ps) at = λ i. (at.0 i, Input k) ∷ inputs-numbered (k + 1) ps at.1 i
+inputs-numbered k (p ∷ ps) at = λ i. (at.0.0 i, Input k) ∷ inputs-numbered (k + 1) ps at.1 i
 
 gates-numbered : (n : ℕ) (es : List EquationValue) → AllFrom IsGateAt n es → map gate_node es ≡ numbered n (map IsGate (map equation_gate es))
 gates-numbered n [] at = refl
@@ -44,7 +44,7 @@ nodes-numbered c ord =
 
 pub input-numbers : (k : ℕ) (ps : List InputPort) → AllFrom IsInputAt k ps → map (λ (p : InputPort). p.wire.0) ps ≡ numbers_from k (length ps)
 input-numbers k [] at = refl
-input-numbers k (p ∷ ps) at = λ i. at.0 i ∷ input-numbers (k + 1) ps at.1 i
+input-numbers k (p ∷ ps) at = λ i. at.0.0 i ∷ input-numbers (k + 1) ps at.1 i
 
 pub built-listed : (c : CircuitValue) → IsInOrder c → built c ≡ listed (length c.inputs) (gates_of c) (signals_of c)
 unfolding listed
@@ -61,7 +61,7 @@ ands-listed n (e ∷ es) ((x, y, is, low, low2), rest) = ((signal_of x, signal_o
 
 outputs-up_to : (top i : ℕ) (ps : List OutputPort) → AllFrom (IsOutputOf top) i ps → AreUpTo top (map port_signal ps)
 outputs-up_to top i [] at = tt
-outputs-up_to top i (p ∷ ps) at = (at.0, outputs-up_to top (i + 1) ps at.1)
+outputs-up_to top i (p ∷ ps) at = (at.0.0, outputs-up_to top (i + 1) ps at.1)
 
 pub listed-fits : (c : CircuitValue) → IsInOrder c → IsListed (length c.inputs) (gates_of c) (signals_of c)
 listed-fits c ord =

@@ -1,11 +1,11 @@
 -- What drives each wire of a circuit in order.
-use Rattle.std.proofs.Common.{◌≡◌, ◌≢◌, ℕ, zero, suc, ◌+◌, ◌<◌, ◌≤◌, ◌⊎◌, ◌==◌, true, false, List, [], ◌∷◌, length, slice_get, Option, Some, None, if◌then◌else◌, eqb, refl, sym, ap, subst, ◌∙◌, inl, inr, arith}
+use Rattle.std.proofs.Common.{◌≡◌, ◌≢◌, ℕ, zero, suc, ◌+◌, ◌<◌, ◌≤◌, ◌⊎◌, true, false, List, [], ◌∷◌, length, slice_get, Some, None, if◌then◌else◌, eqb, refl, ap, ◌∙◌, inl, inr, arith}
 use Rattle.std.proofs.lemmas.Bool.{ne_eqb}
 use Rattle.std.proofs.lemmas.Bool.Decides.{eqb_tells}
 use Rattle.lnet_edge.specs.declared.circuit.Rule.TheVariants.{And}
 use Rattle.lnet_edge.specs.declared.circuit.WireRef.{WireRef}
 use Rattle.lnet_edge.specs.declared.circuit.InputPort.{InputPort}
-use Rattle.lnet_edge.specs.Circuits.{CircuitValue, EquationValue, AllFrom, IsInputAt, IsGateAt, IsInOrder}
+use Rattle.lnet_edge.specs.Circuits.{EquationValue, AllFrom, IsInputAt, IsGateAt}
 use Rattle.lnet_edge.specs.Values.{input_place, equation_at}
 
 eqb_same : (p q : ℕ) → p ≡ q → eqb p q ≡ true
@@ -14,7 +14,7 @@ eqb_same p q e = elim (eqb_tells p q) as (λ _. eqb p q ≡ true) [ inl h ↦ h.
 pub input_place-none : (k i w : ℕ) (ps : List InputPort) → AllFrom IsInputAt i ps → (w < i) ⊎ (i + length ps ≤ w) → input_place k w ps ≡ None
 input_place-none k i w [] at out = refl
 input_place-none k i w (p ∷ ps) at out =
-    let here = at.0 in
+    let here = at.0.0 in
     ap (λ b. if b then Some k else input_place (k + 1) w ps) (ne_eqb p.wire.0 w (apart_from i w (length ps) p.wire.0 here out))
     ∙ input_place-none (k + 1) (i + 1) w ps at.1 (later i w (length ps) out)
   where
@@ -29,11 +29,11 @@ input_place-none k i w (p ∷ ps) at out =
 pub input_place-some : (k i w j : ℕ) (ps : List InputPort) → AllFrom IsInputAt i ps → w ≡ i + j → j < length ps → input_place k w ps ≡ Some (k + j)
 input_place-some k i w j [] at e h = absurd (omega arith)
 input_place-some k i w zero (p ∷ ps) at e h =
-    let here = at.0 in
+    let here = at.0.0 in
     let same : k ≡ k + 0 = omega arith in
     ap (λ b. if b then Some k else input_place (k + 1) w ps) (eqb_same p.wire.0 w (omega arith)) ∙ ap Some same
 input_place-some k i w (suc j) (p ∷ ps) at e h =
-    let here = at.0 in
+    let here = at.0.0 in
     let apart : p.wire.0 ≢ w = λ s. omega arith in
     let same : (k + 1) + j ≡ k + suc j = omega arith in
     ap (λ b. if b then Some k else input_place (k + 1) w ps) (ne_eqb p.wire.0 w apart)

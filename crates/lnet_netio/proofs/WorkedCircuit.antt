@@ -5,9 +5,9 @@ use Rattle.lnet_netio.specs.Worked.{read_as, nand_circuit}
 
 pub nand-IsInOrder : IsInOrder nand_circuit
 nand-IsInOrder = record {
-  inputs = (refl, (refl, tt));
+  inputs = ((refl, refl), ((refl, refl), tt));
   gates = ((read_as 1 false, read_as 2 false, refl, omega arith, omega arith), tt);
-  outputs = (omega arith, tt);
+  outputs = ((omega arith, refl), tt);
   few = omega arith;
   few_outputs = omega arith;
 }

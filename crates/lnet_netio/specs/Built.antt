@@ -1,5 +1,5 @@
 -- The network that is built of a circuit, and the circuit that a network is exported to.
-use Rattle.std.specs.Prelude.{ℕ, ◌+◌, Bool, List, [], ◌∷◌, ◌++◌, map}
+use Rattle.std.specs.Prelude.{ℕ, ◌+◌, Bool, false, None, List, [], ◌∷◌, ◌++◌, map}
 use Rattle.std.specs.List.{flat_map}
 use Rattle.std.specs.FinMap.{from_entries, entries}
 use Rattle.lnet_gates.specs.declared.signal.Signal.{Signal}
@@ -20,8 +20,13 @@ use Rattle.lnet_edge.specs.Circuits.{CircuitValue, EquationValue}
 abbrev pub signal_of : WireRef → Signal
 signal_of r = record { node = record { 0 = r.wire.0 }; complement = r.complement }
 
+-- whether the result of an And is complemented; the circuits that are built have no other rule yet, and no law speaks of one
+abbrev pub and_phase : Rule → Bool
+and_phase (rule.And complement) = complement
+and_phase _ = false
+
 abbrev pub gate_of : Rule → List WireRef → GateValue
-gate_of (rule.And complement) operands = record { op = op.And; phase = complement; fanins = map signal_of operands }
+gate_of r operands = record { op = op.And; phase = and_phase r; fanins = map signal_of operands }
 
 -- input k, counted from this place on, stands at its wire's number
 abbrev pub input_nodes : ℕ → List InputPort → List (ℕ × Entry)
@@ -34,7 +39,7 @@ gate_node e = (e.target, IsGate (gate_of e.rule e.operands))
 abbrev pub built_nodes : CircuitValue → List (ℕ × Entry)
 built_nodes c = (0, Constant) ∷ (input_nodes 0 c.inputs ++ map gate_node c.equations)
 
--- the network of And gates that a circuit describes, a gate for each equation
+-- the network of And gates that a circuit in order describes, a gate for each equation
 abbrev pub built : CircuitValue → NetworkValue
 built c = record {
   kind = Aig;
@@ -63,7 +68,7 @@ entry_equation (n, IsGate g) = gate_equation n g.op g
 -- the inputs in order, the outputs in order, and the gates in order of their numbers
 abbrev pub exported : NetworkValue → CircuitValue
 exported N = record {
-  inputs = map (λ (n : ℕ). record { wire = record { 0 = n } }) N.inputs;
-  outputs = map (λ (s : Signal). record { source = ref_of s }) N.outputs;
+  inputs = map (λ (n : ℕ). record { wire = record { 0 = n }; name = None }) N.inputs;
+  outputs = map (λ (s : Signal). record { source = ref_of s; name = None }) N.outputs;
   equations = flat_map entry_equation (entries N.nodes);
 }

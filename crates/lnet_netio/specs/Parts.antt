@@ -1,5 +1,5 @@
 -- What build and export make of each part of a circuit and of a network, and of the parts in order.
-use Rattle.std.specs.Prelude.{ℕ, ◌+◌, ◌≤◌, List, [], ◌∷◌, length, map}
+use Rattle.std.specs.Prelude.{ℕ, ◌+◌, ◌≤◌, None, List, [], ◌∷◌, length, map}
 use Rattle.lnet_gates.specs.declared.signal.Signal.{Signal}
 use Rattle.lnet_gates.specs.Gates.{GateValue}
 use Rattle.lnet_edge.specs.declared.circuit.Rule.TheVariants.{And}
@@ -23,11 +23,11 @@ FitsGate e = length e.operands.items ≤ 6
 
 -- the input of a node
 abbrev pub port_of : ℕ → InputPort
-port_of n = record { wire = record { 0 = n } }
+port_of n = record { wire = record { 0 = n }; name = None }
 
 -- the output of a signal
 abbrev pub output_of : Signal → OutputPort
-output_of s = record { source = ref_of s }
+output_of s = record { source = ref_of s; name = None }
 
 -- the equation of an And gate that stands at this number
 abbrev pub equation_of : ℕ → GateValue → EquationValue

@@ -1,6 +1,6 @@
 -- A worked circuit: in the ASCII form of AIGER it has the header `aag 3 2 0 1 1`, the inputs 2 and 4, the output 7 and the
 -- gate `6 2 4`.
-use Rattle.std.specs.Prelude.{ℕ, Bool, true, false, List, [], ◌∷◌}
+use Rattle.std.specs.Prelude.{ℕ, Bool, true, false, None, [], ◌∷◌}
 use Rattle.lnet_edge.specs.declared.circuit.Rule.TheVariants.{And}
 use Rattle.lnet_edge.specs.declared.circuit.WireRef.{WireRef}
 use Rattle.lnet_edge.specs.Circuits.{CircuitValue}
@@ -14,6 +14,6 @@ read_as w f = record { wire = record { 0 = w }; complement = f }
 abbrev pub nand_circuit : CircuitValue
 nand_circuit = record {
   inputs = port_of 1 ∷ port_of 2 ∷ [];
-  outputs = (record { source = read_as 3 true }) ∷ [];
+  outputs = (record { source = read_as 3 true; name = None }) ∷ [];
   equations = (record { target = 3; rule = And false; operands = read_as 1 false ∷ read_as 2 false ∷ [] }) ∷ [];
 }

@@ -3,9 +3,10 @@
 ghost use Rattle.std.specs.Prelude.{◌≡◌, ◌≤◌, ℕ, Bool, map, length, All, IfOk};
 ghost use Rattle.lnet_model.specs.Along.{Acyclic};
 ghost use Rattle.lnet_model.specs.Values.{network_outputs};
+ghost use Rattle.lnet_edge.specs.Circuits.{IsInOrder};
 ghost use Rattle.lnet_edge.specs.CircuitLists.{equation_view};
 ghost use Rattle.lnet_edge.specs.Values.{circuit_outputs};
-ghost use Rattle.lnet_netio.specs.Built.{signal_of, built};
+ghost use Rattle.lnet_netio.specs.Built.{and_phase as and_phase_of, signal_of, built};
 ghost use Rattle.lnet_netio.specs.Parts.{equation_gate, port_signal, FitsGate};
 
 use arrayvec::ArrayVec;
@@ -16,8 +17,11 @@ use std::alloc::{AllocError, Global};
 
 /// The network that a circuit describes: the node of a wire is its number, and each equation is a gate.
 ///
+/// The circuit is numbered in order, as `Circuit::in_order` makes it.
+///
 /// `Err` exactly where memory ran out. Linear time in the circuit.
 pub fn build(alloc: Global, circuit: &Circuit) -> Result<Network, AllocError>
+    requires { IsInOrder circuit.now }
     ensures built { IfOk result (λ n. n ≡ built circuit.now) }
     ensures outputs { IfOk result (λ n. (a : ℕ → Bool) → network_outputs n a ≡ circuit_outputs circuit.now a) }
     ensures acyclic { IfOk result (λ n. Acyclic n) }
@@ -49,12 +53,20 @@ fn gate(equation: &Equation) -> Gate
     for operand in equation.operands.as_slice() {
         fanins.push(signal(*operand));
     }
-    match equation.rule {
-        Rule::And(phase) => Gate {
-            op: Op::And,
-            phase,
-            fanins,
-        },
+    Gate {
+        op: Op::And,
+        phase: and_phase(&equation.rule),
+        fanins,
+    }
+}
+
+/// Whether the result of an And is complemented; a circuit in order has no other rule.
+fn and_phase(rule: &Rule) -> bool
+    ensures { result ≡ and_phase_of rule.now }
+{
+    match rule {
+        Rule::And(complement) => *complement,
+        _ => false,
     }
 }
 

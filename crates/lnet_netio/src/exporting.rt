@@ -40,6 +40,7 @@ fn input_ports(alloc: Global, count: u32) -> Result<Vec<InputPort>, AllocError>
     for place in 0..count {
         ports.push(InputPort {
             wire: Wire(place + 1),
+            name: None,
         })?;
     }
     Ok(ports)
@@ -53,6 +54,7 @@ fn output_ports(alloc: Global, signals: &[Signal]) -> Result<Vec<OutputPort>, Al
     for signal in signals {
         ports.push(OutputPort {
             source: wire_ref(*signal),
+            name: None,
         })?;
     }
     Ok(ports)

@@ -14,7 +14,10 @@ use std::test::Fail;
 fn port(wire: u32) -> InputPort
     ensures { result ≡ port_of wire }
 {
-    InputPort { wire: Wire(wire) }
+    InputPort {
+        wire: Wire(wire),
+        name: None,
+    }
 }
 
 fn read(wire: u32, complement: bool) -> WireRef
@@ -34,6 +37,7 @@ fn worked(alloc: Global) -> Result<Circuit, AllocError>
         alloc,
         [OutputPort {
             source: read(3, true),
+            name: None,
         }],
     )?;
     let operands = SmallVec::from_slice(alloc, &[read(1, false), read(2, false)])?;
@@ -69,8 +73,16 @@ fn builds_and_exports(rt: HostRuntime) -> Result<(), Fail> {
     assert_eq!(rt; gate.op, Op::And);
     assert_eq!(rt; gate.fanins.len(), 2);
     let back = export(rt.alloc(), &net)?;
-    assert_eq!(rt; back.inputs(), circuit.inputs());
-    assert_eq!(rt; back.outputs(), circuit.outputs());
+    assert_eq!(rt; back.inputs().len(), 2);
+    for (i, input) in back.inputs().iter().enumerate() {
+        assert_eq!(rt; input.wire, Wire(i as u32 + 1));
+        assert!(rt; input.name.is_none());
+    }
+    assert_eq!(rt; back.outputs().len(), 1);
+    for output in back.outputs() {
+        assert_eq!(rt; output.source, read(3, true));
+        assert!(rt; output.name.is_none());
+    }
     assert_eq!(rt; back.equations().len(), 1);
     for equation in back.equations() {
         assert_eq!(rt; equation.target, Wire(3));

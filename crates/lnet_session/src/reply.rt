@@ -46,8 +46,18 @@ pub fn text_of_reply(alloc: Global, index: u32, reply: Reply) -> Result<String, 
         Reply::Wrote(bytes) => format!(in alloc; "wrote {bytes}\n"),
         Reply::Unmet(Unmet::NoNetwork) => format!(in alloc; "unmet {index} NoNetwork\n"),
         Reply::Unmet(Unmet::TooLong) => format!(in alloc; "unmet {index} TooLong\n"),
-        Reply::Unmet(Unmet::Malformed(line, Fault::Unbuilt)) => format!(in alloc;
-            "unmet {index} Malformed {line} Unbuilt\n"
-        ),
+        Reply::Unmet(Unmet::Malformed(line, kind)) => malformed_text(alloc, index, line, kind),
+    }
+}
+
+/// The line of a command that met a content with this fault in this line.
+fn malformed_text(alloc: Global, index: u32, line: u32, kind: Fault) -> Result<String, AllocError>
+    ensures { IfOk result (λ text. string_bytes text ≡ reply_text index (Reply.Unmet (Unmet.Malformed line kind))) }
+{
+    match kind {
+        Fault::Unbuilt => format!(in alloc; "unmet {index} Malformed {line} Unbuilt\n"),
+        Fault::Undriven => format!(in alloc; "unmet {index} Malformed {line} Undriven\n"),
+        Fault::Twice => format!(in alloc; "unmet {index} Malformed {line} Twice\n"),
+        Fault::Cycle => format!(in alloc; "unmet {index} Malformed {line} Cycle\n"),
     }
 }

@@ -1,6 +1,6 @@
 //! A chained hash table over the numbers of nodes: each number has its own place, so that entries come and go without memory.
 
-ghost use Rattle.std.specs.Prelude.{◌≡◌, ◌≢◌, ◌<◌, ◌≤◌, ℕ, Bool, Some, None, length, slice_set, MatchOption, OnOk, OnErr, IsTrue, slice_index_or, max, ◌+◌, ◌^◌, [], IfOk};
+ghost use Rattle.std.specs.Prelude.{◌≡◌, ◌≢◌, ◌<◌, ◌≤◌, ℕ, Bool, Some, None, length, slice_set, MatchOption, OnOk, OnErr, IsTrue, slice_index_or, max, ◌+◌, ◌^◌, [], IfOk, IsOk};
 ghost use Rattle.lnet_gates.specs.Gates.{KeyValue};
 ghost use Rattle.lnet_strash.specs.Keys as keys;
 ghost use Rattle.lnet_strash.specs.Standing.{at, KeysDiffer};
@@ -12,8 +12,7 @@ use std::alloc::{AllocError, Global};
 
 /// The chains, and what stands at each number.
 ///
-/// A chain has the numbers whose keys have its number as their hash. `heads` has the first number of each chain, and `next`
-/// for each number the one after it in its chain.
+/// A key's hash gives its chain, and a chain has the numbers whose nodes stand under its keys. What this keeps is `IsTable`.
 #[derive(Drop)]
 pub(crate) struct Chains {
     /// By chain its first number.
@@ -191,6 +190,7 @@ impl Chains {
         requires differ { KeysDiffer self.old.standing.items }
         ensures table { IsTable self.new.heads.items self.new.next.items self.new.standing.items }
         ensures standing { self.new.standing.items ≡ self.old.standing.items }
+        ensures next { length self.new.next.items ≡ length self.old.next.items }
     {
         clear(&mut self.heads);
         'numbers: for number in 0..self.standing.len() as u32 {
@@ -198,24 +198,25 @@ impl Chains {
         }
     }
 
-    /// Gets room for so many numbers, and a chain for each: where there are fewer, twice as many as there were at least. What
-    /// stands stays, whatever it answers. Linear in the room where it grows.
+    /// Gets room for so many numbers, and as many chains at least: where there are fewer, twice as many as there were at least.
+    /// What stands stays, whatever it answers. Linear in the room where it grows.
     pub(crate) fn reserve(&mut self, numbers: u32) -> Result<(), AllocError>
         requires table { IsTable self.old.heads.items self.old.next.items self.old.standing.items }
         ensures table { IsTable self.new.heads.items self.new.next.items self.new.standing.items }
         ensures standing { (n : ℕ) → at self.new.standing.items n ≡ at self.old.standing.items n }
         ensures grows { length self.old.standing.items ≤ length self.new.standing.items }
         ensures ok { OnOk result (numbers ≤ length self.new.standing.items) }
+        ensures succeeds { numbers ≤ length self.old.standing.items → IsOk result }
     {
         let places = self.standing.len();
-        if numbers as usize <= places.min(self.heads.len()) {
+        if numbers as usize <= places {
             return Ok(());
         }
         let room = (numbers as usize).max((2 * places).min(u32::MAX as usize));
         lengthen(&mut self.next, room)?;
-        lengthen(&mut self.standing, room)?;
         lengthen(&mut self.heads, room)?;
         self.rebuild();
+        lengthen(&mut self.standing, room)?;
         Ok(())
     }
 }

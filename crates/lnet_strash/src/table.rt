@@ -1,6 +1,6 @@
 //! The finite map from keys to nodes.
 
-ghost use Rattle.std.specs.Prelude.{◌≡◌, ◌≢◌, ◌<◌, ◌≤◌, ◌↔◌, ℕ, Bool, [], Some, None, IsSome, IfOk, OnOk, slice_set};
+ghost use Rattle.std.specs.Prelude.{◌≡◌, ◌≢◌, ◌<◌, ◌≤◌, ◌↔◌, ℕ, Bool, [], Some, None, IsSome, IfOk, IsOk, OnOk, slice_set};
 ghost use Rattle.lnet_gates.specs.Gates.{KeyValue};
 ghost use Rattle.lnet_gates.specs.declared.signal.Node.{Node};
 ghost use Rattle.lnet_strash.specs.Standing.{KeysDiffer, at, entry, room};
@@ -40,11 +40,13 @@ impl Strash {
         Ok(Strash { chains })
     }
 
-    /// Gets room for the nodes below `numbers`. It fails for want of memory alone. Whatever it answers, the entries are as
-    /// before, and the room doesn't shrink. Where there is less room it gets twice what there was at least, so that a map that
-    /// grows by one takes linear time in all. Linear in the room where it grows, else constant time.
+    /// Gets room for the nodes below `numbers`. It fails for want of memory alone, and never where the room is there. Whatever
+    /// it answers, the entries are as before, and the room doesn't shrink. Where there is less room it gets twice what there
+    /// was at least, so that a map that grows by one takes linear time in all. Linear in the room where it grows, else
+    /// constant time.
     pub fn reserve(&mut self, numbers: u32) -> Result<(), AllocError>
         ensures ok { OnOk result (numbers ≤ room self.new) }
+        ensures succeeds { numbers ≤ room self.old → IsOk result }
         ensures grows { room self.old ≤ room self.new }
         ensures entries { (k : KeyValue) → entry self.new k ≡ entry self.old k }
         ensures standing { (n : ℕ) → at self.new n ≡ at self.old n }

@@ -6,4 +6,4 @@ use Rattle.lnet_aiger.proofs.writing.write_ascii.Goals as goal
 pub returns-clause-means : goal.returns-clause-means
 returns-clause-means c =
     let e : c.into_bytes.result.items ≡ text_of c.args.circuit.now = search rules in
-    text_means_same c.into_bytes.result.items c.args.circuit.now e c.put_circuit.ensures.in_order
+    text_means_same c.into_bytes.result.items c.args.circuit.now e c.requires

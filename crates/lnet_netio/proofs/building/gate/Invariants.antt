@@ -1,4 +1,4 @@
-use Rattle.std.proofs.Common.{◌≡◌, map, take, length}
+use Rattle.std.proofs.Common.{◌≡◌, map, take}
 use Rattle.lnet_netio.specs.Built.{signal_of}
 use Rattle.lnet_netio.proofs.building.gate.Given as goal
 

@@ -1,4 +1,4 @@
-use Rattle.std.proofs.Common.{◌≡◌, ℕ, length, sym, ap, subst, ◌∙◌}
+use Rattle.std.proofs.Common.{◌≡◌, sym, ap, subst, ◌∙◌}
 use Rattle.lnet_edge.specs.Circuits.{IsInOrder}
 use Rattle.lnet_edge.specs.Values.{circuit_outputs}
 use Rattle.lnet_netio.specs.Built.{exported}
@@ -20,3 +20,6 @@ returns-clause-exported c = is_exported c
 
 pub returns-clause-outputs : goal.returns-clause-outputs
 returns-clause-outputs c = λ a. ap (λ d. circuit_outputs d a) (is_exported c) ∙ outputs-exported c.args.net.now _ _ _ a c.gates-gates.ensures.value c.gates-gates.ensures.fits
+
+pub returns-clause-in_order : goal.returns-clause-in_order
+returns-clause-in_order c = subst IsInOrder (sym (is_exported c)) (exported-IsInOrder c.args.net.now _ _ _ c.gates-gates.ensures.value c.gates-gates.ensures.fits)

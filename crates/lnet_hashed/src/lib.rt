@@ -18,20 +18,25 @@ ghost use Rattle.lnet_model.specs.Dags.{IsStored, NUMBERS};
 ghost use Rattle.lnet_hashed.specs.Strashed.{IsStrashed};
 ghost use Rattle.lnet_hashed.specs.Laid.{made};
 
+
 mod hashed;
 mod laying;
+mod levels;
 mod making;
 mod placing;
 mod subscribing;
+mod sweeping;
 mod telling;
 #[cfg(test)]
 mod tests;
 
+pub use levels::depth;
 pub use hashed::{Hashed, add_input, find, remove, reserve};
 pub use laying::lay;
 pub use making::make;
 pub use placing::place;
 pub use subscribing::{subscribe, unsubscribe, view, visits_of};
+pub use sweeping::sweep;
 pub use telling::tell;
 
 /// An operation that is made on live operands computes the operation, and nothing that was live changes. A network whose

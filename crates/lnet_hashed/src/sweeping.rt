@@ -63,7 +63,7 @@ fn pass(hashed: &mut Hashed, views: &mut Vec<Option<Box<dyn View>>>, visits: &mu
 /// until one removes nothing. Where each gate stands above its fanins one pass removes all, and a second finds nothing. At worst,
 /// where each gate stands below its fanins, there is a pass for each level that goes, and one more. A pass is linear in the
 /// numbers, beside what the views take.
-pub(crate) fn sweep(
+pub fn sweep(
     hashed: &mut Hashed,
     views: &mut Vec<Option<Box<dyn View>>>,
     visits: &mut Vec<u64>,

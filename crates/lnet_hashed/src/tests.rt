@@ -5,9 +5,10 @@ ghost use Rattle.lnet_gates.specs.Plans.{Takes};
 ghost use Rattle.lnet_hashed.specs.Views.{EachSlot, Fits};
 ghost use Rattle.lnet_hashed.specs.Rooms.{HasRoom};
 
-use crate::{Hashed, add_input, make};
+use crate::{Hashed, add_input, depth, make, subscribe, sweep, unsubscribe, view, visits_of};
 use lnet_gates::{AigGates, Gates, MigGates, Node, Op, Signal};
-use lnet_store::View;
+use lnet_store::{View, ViewKind, ViewSpec};
+use lnet_views::DepthView;
 use std::test::Fail;
 
 fn plain(node: Node) -> Signal {
@@ -63,6 +64,54 @@ fn input(
         Ok(node) => Ok(plain(node)),
         Err(_) => Err("refused".into()),
     }
+}
+
+/// Subscribes a detached depth view.
+fn follow(
+    hashed: &Hashed,
+    views: &mut Vec<Option<Box<dyn View>>>,
+    visits: &mut Vec<u64>,
+    view: Box<dyn View>,
+) -> Result<usize, Fail>
+    requires fit { EachSlot (Fits spec_of kept room hashed.now.store.network hashed.now.room) views.old.items }
+    ensures fit { EachSlot (Fits spec_of kept room hashed.now.store.network hashed.now.room) views.new.items }
+{
+    if view.spec().is_some() {
+        return Err("attached".into());
+    }
+    match view.kind() {
+        ViewKind::Depth => match subscribe(views, visits, &hashed.store, hashed.room, view, ViewSpec::Depth) {
+            Ok(id) => Ok(id),
+            Err(_) => Err("refused".into()),
+        },
+        _ => Err("another kind".into()),
+    }
+}
+
+#[test]
+fn a_view_follows(rt: HostRuntime) -> Result<(), Fail> {
+    let mut hashed = Hashed::new(rt.alloc())?;
+    let mut views: Vec<Option<Box<dyn View>>> = Vec::new(rt.alloc());
+    let mut visits = Vec::new(rt.alloc());
+    let a = input(&mut hashed, &mut views, &mut visits)?;
+    let b = input(&mut hashed, &mut views, &mut visits)?;
+    let c = input(&mut hashed, &mut views, &mut visits)?;
+    let levels: Box<dyn View> = Box::new(rt.alloc(), DepthView::new(rt.alloc())?)?;
+    let id = follow(&hashed, &mut views, &mut visits, levels)?;
+    assert_eq!(rt; id, 0);
+    let most = on::<AigGates>(&mut hashed, &mut views, &mut visits, Op::Maj, &[a, b, c])?;
+    match view(&views, id) {
+        Some(levels) => assert_eq!(rt; levels.level(most.node), Some(3)),
+        None => return Err("no view".into()),
+    }
+    assert_eq!(rt; visits_of(&views, &visits, id), Some(1));
+    assert_eq!(rt; depth(&hashed.store, rt.alloc())?, 0);
+    // No output reaches the four gates.
+    sweep(&mut hashed, &mut views, &mut visits);
+    assert_eq!(rt; hashed.store.live_count(), 4);
+    assert!(rt; unsubscribe(&mut views, id).is_some());
+    assert!(rt; view(&views, id).is_none());
+    Ok(())
 }
 
 #[test]

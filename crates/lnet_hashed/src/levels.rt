@@ -37,7 +37,7 @@ fn greatest_level(view: &DepthView, store: &Store) -> u32
 
 /// The network's depth: the greatest level of an output's node, 0 where there is no output. It takes memory for the levels, and
 /// gives it back; it is refused only where there is none. Linear in the network's nodes, fanins and outputs.
-pub(crate) fn depth(store: &Store, alloc: Global) -> Result<u32, AllocError>
+pub fn depth(store: &Store, alloc: Global) -> Result<u32, AllocError>
     ensures { IfOk result (λ d. d ≡ depth_of store.now.network) }
 {
     let mut view = DepthView::new(alloc)?;

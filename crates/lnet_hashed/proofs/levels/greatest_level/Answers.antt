@@ -3,8 +3,8 @@ use Rattle.std.proofs.lemmas.Option.{slice_get-get_or}
 use Rattle.lnet_gates.specs.declared.signal.Signal.{Signal}
 use Rattle.lnet_model.specs.Levels.{level, depth as depth_of}
 use Rattle.lnet_hashed.proofs.Greatest.{greatest_from, greatest-next}
-use Rattle.lnet_hashed.proofs.depth.greatest_level.Goals as goal
-use Rattle.lnet_hashed.proofs.depth.greatest_level.Goals.{in-Some, in_default}
+use Rattle.lnet_hashed.proofs.levels.greatest_level.Goals as goal
+use Rattle.lnet_hashed.proofs.levels.greatest_level.Goals.{in-Some, in_default}
 
 pub loop-k-init : goal.loop-k-init
 unfolding depth_of

@@ -1,7 +1,7 @@
 use Rattle.std.proofs.Common.{ap, ◌∙◌}
 use Rattle.std.specs.Option.{unwrap_or}
 use Rattle.lnet_hashed.proofs.Greatest.{kept-level}
-use Rattle.lnet_hashed.proofs.depth.level_of.Goals as goal
+use Rattle.lnet_hashed.proofs.levels.level_of.Goals as goal
 
 pub returns : goal.returns
 returns c =

@@ -1,19 +1,19 @@
 -- What a new number does to the counts, the room and the least free number.
-use Rattle.std.proofs.Common.{◌≡◌, ◌≢◌, ℕ, zero, suc, ◌+◌, ◌-◌, ◌<◌, ◌≤◌, Bool, true, false, cond, List, [], ◌∷◌, map, length, IsSome, Option, None, Some, refl, sym, ap, subst, ◌∙◌, inl, inr, arith}
-use Rattle.std.specs.Prelude.{⊤, is_some, eqb}
-use Rattle.std.specs.FinMap.{find, get-entries, entries_sorted}
-use Rattle.std.specs.FinMap.Entries.{is_sorted}
+use Rattle.std.proofs.Common.{◌≡◌, ◌≢◌, ℕ, zero, suc, ◌+◌, ◌<◌, ◌≤◌, Bool, true, false, cond, List, [], ◌∷◌, map, length, IsSome, Option, None, Some, refl, sym, ap, subst, ◌∙◌, inl, inr, arith}
+use Rattle.std.specs.Prelude.{is_some, eqb}
+use Rattle.std.specs.FinMap.{find, get-entries}
 use Rattle.std.proofs.lemmas.Bool.{cases_lt}
 use Rattle.std.proofs.lemmas.Bool.Decides.{eqb_tells}
 use Rattle.std.proofs.lemmas.Cmp.{nat_cmp_total}
 use Rattle.std.specs.Ordering.{nat_cmp, eq_by_cmp}
-use Rattle.std.specs.FinMap.{FinMap, get, len, insert, keys, entries, len-insert}
+use Rattle.std.specs.FinMap.{len, entries, len-insert}
 use Rattle.lnet_model.specs.Networks.{NetworkValue, Entry, IsGate, IsLive, entry_at, live_count}
 use Rattle.lnet_model.specs.Along.{In}
 use Rattle.lnet_model.specs.Changes.{with_entry, IsLeastFree}
 use Rattle.lnet_model.specs.Dags.{AreBelow}
 use Rattle.lnet_model.proofs.Map.{Apart, count_apart, tied, apart}
-use Rattle.lnet_model.proofs.Rising.{Rising, entries-rising}
+use Rattle.lnet_model.proofs.Rising.{Rising}
+use Rattle.lnet_hashed.proofs.Ascending.{entries-rising}
 use Rattle.lnet_gates.specs.Gates.{KeyValue}
 use Rattle.lnet_gates.specs.NormalLaws.{keyed_gate}
 use Rattle.lnet_hashed.specs.Strashed.{first_gap, least_free, found, placed_key}
@@ -74,26 +74,26 @@ gap-is : (a : ℕ) (es : List (ℕ × Entry)) → Rising a es → IsGap a es (fi
 gap-is a [] r = record { from = omega arith; free = refl; full = λ m h l. absurd (omega arith) }
 gap-is a (e ∷ es) r = elim (eqb_tells a e.0) as (λ _. IsGap a (e ∷ es) (cond (eqb a e.0) (first_gap (suc a) (map (λ e. e.0) es)) a)) [
   | inl p ↦
-    let n : ℕ = first_gap (suc a) (map (λ e. e.0) es) in
-    let g = gap-is (suc a) es (subst (λ z. Rising (suc z) es) (sym p.1) r.1) in
-    let from = g.from in
-    let here = p.1 in
-    subst (λ b. IsGap a (e ∷ es) (cond b n a)) (sym p.0) (record {
-      from = omega arith;
-      free = ap (λ t. cond t (Some e.1) (find nat_cmp n es)) (apart n e.0 (omega arith)) ∙ g.free;
-      full = λ m h l. elim (eqb_tells m e.0) [
-        | inl q ↦ subst (λ t. IsSome (cond t (Some e.1) (find nat_cmp m es))) (sym (ap (λ z. eq_by_cmp nat_cmp z e.0) q.1 ∙ tied e.0)) refl
-        | inr q ↦ subst (λ t. IsSome (cond t (Some e.1) (find nat_cmp m es))) (sym (apart m e.0 q.1)) (g.full m (let ne = q.1 in omega arith) l)
-      ];
-    })
+      let n : ℕ = first_gap (suc a) (map (λ e. e.0) es) in
+      let g = gap-is (suc a) es (subst (λ z. Rising (suc z) es) (sym p.1) r.1) in
+      let from = g.from in
+      let here = p.1 in
+      subst (λ b. IsGap a (e ∷ es) (cond b n a)) (sym p.0) (record {
+        from = omega arith;
+        free = ap (λ t. cond t (Some e.1) (find nat_cmp n es)) (apart n e.0 (omega arith)) ∙ g.free;
+        full = λ m h l. elim (eqb_tells m e.0) [
+          | inl q ↦ subst (λ t. IsSome (cond t (Some e.1) (find nat_cmp m es))) (sym (ap (λ z. eq_by_cmp nat_cmp z e.0) q.1 ∙ tied e.0)) refl
+          | inr q ↦ subst (λ t. IsSome (cond t (Some e.1) (find nat_cmp m es))) (sym (apart m e.0 q.1)) (g.full m (let ne = q.1 in omega arith) l)
+        ];
+      })
   | inr p ↦
-    let le = r.0 in
-    let ne = p.1 in
-    subst (λ b. IsGap a (e ∷ es) (cond b (first_gap (suc a) (map (λ e. e.0) es)) a)) (sym p.0) (record {
-      from = omega arith;
-      free = find-low a (suc a) (e ∷ es) (omega arith) (omega arith, r.1);
-      full = λ m h l. absurd (omega arith);
-    })
+      let le = r.0 in
+      let ne = p.1 in
+      subst (λ b. IsGap a (e ∷ es) (cond b (first_gap (suc a) (map (λ e. e.0) es)) a)) (sym p.0) (record {
+        from = omega arith;
+        free = find-low a (suc a) (e ∷ es) (omega arith) (omega arith, r.1);
+        full = λ m h l. absurd (omega arith);
+      })
 ]
 
 pub least-free-is : (N : NetworkValue) → IsLeastFree N (least_free N)

@@ -1,9 +1,9 @@
 -- The network of node 0 alone, and its room.
-use Rattle.std.proofs.Common.{◌≡◌, ℕ, ◌<◌, ◌≤◌, ◌≢◌, false, true, cond, IsSome, Some, None, [], ◌∷◌, refl, sym, ap, subst, ◌∙◌, inl, inr, arith}
+use Rattle.std.proofs.Common.{◌≡◌, ℕ, ◌<◌, ◌≤◌, ◌≢◌, false, true, IsSome, None, [], ◌∷◌, refl, sym, subst, ◌∙◌, inl, inr, arith}
 use Rattle.std.specs.FinMap.{get, empty, get-empty}
 use Rattle.std.specs.Ordering.{nat_cmp}
 use Rattle.std.proofs.lemmas.Bool.Decides.{eqb_tells}
-use Rattle.lnet_model.specs.Networks.{NetworkValue, Entry, Constant, entry_at, live_count}
+use Rattle.lnet_model.specs.Networks.{NetworkValue, Constant, entry_at, live_count}
 use Rattle.lnet_model.specs.Along.{IsWhole}
 use Rattle.lnet_model.specs.Dags.{AreBelow}
 use Rattle.lnet_model.proofs.Map.{count_apart, insert_apart}

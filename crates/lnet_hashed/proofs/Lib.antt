@@ -14,3 +14,5 @@ pub mod Reached
 pub mod Greatest
 pub mod KeptViews
 pub mod SweptValues
+pub mod Ascending
+pub mod Unnamed

@@ -1,5 +1,5 @@
 -- What placing a gate does to the nodes that are there, and how a new node is taken back.
-use Rattle.std.proofs.Common.{◌≡◌, ℕ, ◌+◌, ◌<◌, ◌≤◌, ◌⊎◌, Bool, false, List, [], ◌∷◌, ◌++◌, Option, None, Some, reverse, refl, sym, ap, subst, ◌∙◌, inl, inr, arith}
+use Rattle.std.proofs.Common.{◌≡◌, ℕ, ◌<◌, ◌≤◌, ◌⊎◌, Bool, false, List, [], ◌∷◌, ◌++◌, Option, None, Some, reverse, refl, sym, ap, subst, inl, inr, arith}
 use Rattle.lnet_gates.specs.declared.signal.Signal.{Signal}
 use Rattle.lnet_gates.specs.declared.signal.Node.{Node}
 use Rattle.lnet_gates.specs.declared.normal.Normal.{Normal}
@@ -8,16 +8,15 @@ use Rattle.lnet_gates.specs.Gates.{GateValue, KeyValue}
 use Rattle.lnet_gates.specs.NormalLaws.{NamesOnly, keyed_gate}
 use Rattle.lnet_model.specs.Networks.{NetworkValue, IsGate, IsLive, entry_at, live_count}
 use Rattle.lnet_model.specs.Along.{nodes_read}
-use Rattle.lnet_model.specs.Changes.{with_entry, without, AreLive, IsGateAt}
+use Rattle.lnet_model.specs.Changes.{with_entry, AreLive}
 use Rattle.lnet_model.specs.Dags.{IsStored}
-use Rattle.lnet_model.specs.Fanouts.{references}
 use Rattle.lnet_model.proofs.Changes.{with_entry-here}
 use Rattle.lnet_model.proofs.Stored.{with-live, take_back}
-use Rattle.lnet_model.proofs.References.{references-new}
+use Rattle.lnet_hashed.proofs.Unnamed.{references-new}
 use Rattle.lnet_hashed.specs.Strashed.{Placed, found, least_free, placed, placed_form, placed_key, newly_placed}
 use Rattle.lnet_hashed.specs.Undoing.{undone, IsUndoable}
 use Rattle.lnet_hashed.proofs.Adding.{count-added, least-free-is}
-use Rattle.lnet_hashed.proofs.Places.{key-live, placed-as}
+use Rattle.lnet_hashed.proofs.Places.{key-live}
 use Rattle.std.proofs.lemmas.List.{reverse-append}
 
 -- a form that is placed newly

@@ -1,15 +1,15 @@
 -- What a placed gate names, and where it comes.
-use Rattle.std.proofs.Common.{◌≡◌, ℕ, ◌⊎◌, Bool, List, [], ◌∷◌, IsSome, refl, sym, ap, subst, inl, inr}
+use Rattle.std.proofs.Common.{◌≡◌, ℕ, Bool, List, [], ◌∷◌, IsSome, refl, sym, ap, subst, inl, inr}
 use Rattle.lnet_gates.specs.declared.signal.Signal.{Signal}
 use Rattle.lnet_gates.specs.declared.normal.Normal.{Normal}
 use Rattle.lnet_gates.specs.declared.normal.Normal.TheVariants.{Is, Gate}
 use Rattle.lnet_gates.specs.Gates.{GateValue, KeyValue}
 use Rattle.lnet_gates.specs.Operands.{IsNamedBy}
 use Rattle.lnet_gates.specs.NormalLaws.{NamesOnly}
-use Rattle.lnet_model.specs.Networks.{NetworkValue, IsLive, entry_at}
+use Rattle.lnet_model.specs.Networks.{NetworkValue, IsLive}
 use Rattle.lnet_model.specs.Along.{In, IsWhole, nodes_read}
 use Rattle.lnet_model.specs.Changes.{AreLive}
-use Rattle.lnet_hashed.specs.Strashed.{Placed, placed, placed_form}
+use Rattle.lnet_hashed.specs.Strashed.{placed, placed_form}
 
 pub named-read : (n : ℕ) (ss : List Signal) → IsNamedBy n ss → In n (nodes_read ss)
 named-read n [] i = i

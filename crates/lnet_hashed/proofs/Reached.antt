@@ -11,7 +11,7 @@ use Rattle.lnet_model.specs.Dags.{IsStored}
 use Rattle.lnet_model.proofs.Changes.{without-apart}
 use Rattle.lnet_model.proofs.Removals.{left-apart}
 use Rattle.lnet_model.proofs.Stored.{same_network, joined, joined-end, live-gate, no-parent, no-output}
-use Rattle.lnet_model.proofs.References.{references-none}
+use Rattle.lnet_hashed.proofs.Unnamed.{references-none}
 use Rattle.lnet_model.proofs.Levels.{level-falls, level-small}
 use Rattle.lnet_hashed.specs.Swept.{IsReached, IsSwept, IsTrimmed, IsUnnamed}
 

@@ -1,7 +1,5 @@
 -- Networks of the same nodes: what views keep doesn't depend on the inputs and outputs.
 use Rattle.std.proofs.Common.{◌≡◌, ℕ, ◌+◌, ◌<◌, List, [], ◌∷◌, ◌++◌, length, IsSome, Option, None, Some, IfSome, option_map, slice_index_or, refl, sym, ap, subst, ◌∙◌}
-use Rattle.lnet_gates.specs.declared.gate.Kind.{Kind}
-use Rattle.lnet_gates.specs.declared.signal.Signal.{Signal}
 use Rattle.lnet_model.specs.Networks.{NetworkValue, Input, IsLive, entry_at, live_count}
 use Rattle.lnet_model.specs.Along.{over}
 use Rattle.lnet_model.specs.Fanouts.{fan}

@@ -1,5 +1,5 @@
 -- What is laid in a network: the steps of a recipe, one after another.
-use Rattle.std.specs.Prelude.{ℕ, ◌%◌, ◌==◌, Bool, false, List, [], ◌∷◌, ◌++◌, length}
+use Rattle.std.specs.Prelude.{◌%◌, ◌==◌, false, List, [], ◌∷◌, ◌++◌, length}
 use lib.ListN.{get_or}
 use Rattle.lnet_tables.specs.declared.step.Lit.{Lit}
 use Rattle.lnet_tables.specs.declared.step.Step.{Step}

@@ -1,6 +1,6 @@
 -- Structural hashing: each gate is its own normal form, no two gates have one key, and where a gate is placed.
 -- Source: structural hashing of and-inverter graphs (Kuehlmann and Krohm 1997); here a gate has a phase, and its key has none.
-use Rattle.std.specs.Prelude.{◌≡◌, ℕ, suc, ◌+◌, Bool, true, false, cond, ◌&&◌, List, [], ◌∷◌, eqb, slice_get, Option, None, Some}
+use Rattle.std.specs.Prelude.{◌≡◌, ℕ, suc, Bool, true, false, cond, ◌&&◌, List, [], ◌∷◌, eqb, slice_get, Option, None, Some}
 use Rattle.std.specs.List.{flat_map}
 use Rattle.std.specs.FinMap.{entries, keys}
 use Rattle.lnet_gates.specs.declared.signal.Signal.{Signal}
@@ -9,7 +9,7 @@ use Rattle.lnet_gates.specs.declared.gate.Op.{Op}
 use Rattle.lnet_gates.specs.declared.gate.Op.TheVariants.{And, Xor, Maj, Lut}
 use Rattle.lnet_gates.specs.declared.normal.Normal.{Normal}
 use Rattle.lnet_gates.specs.declared.normal.Normal.TheVariants.{Is, Gate}
-use Rattle.lnet_gates.specs.Gates.{GateValue, KeyValue, flip}
+use Rattle.lnet_gates.specs.Gates.{GateValue, KeyValue}
 use Rattle.lnet_gates.specs.Operands.{flipped, is_same}
 use Rattle.lnet_gates.specs.Natives.{IsNativeGate}
 use Rattle.lnet_gates.specs.NormalLaws.{keyed_gate}

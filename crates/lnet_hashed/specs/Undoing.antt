@@ -1,5 +1,5 @@
 -- Taking back nodes that were added.
-use Rattle.std.specs.Prelude.{◌≡◌, ℕ, List, [], ◌∷◌, length}
+use Rattle.std.specs.Prelude.{◌≡◌, List, [], ◌∷◌}
 use Rattle.lnet_gates.specs.declared.signal.Node.{Node}
 use Rattle.lnet_model.specs.Networks.{NetworkValue}
 use Rattle.lnet_model.specs.Changes.{without, IsGateAt}

@@ -18,7 +18,6 @@ ghost use Rattle.lnet_model.specs.Dags.{IsStored, NUMBERS};
 ghost use Rattle.lnet_hashed.specs.Strashed.{IsStrashed};
 ghost use Rattle.lnet_hashed.specs.Laid.{made};
 
-
 mod hashed;
 mod laying;
 mod levels;
@@ -30,9 +29,9 @@ mod telling;
 #[cfg(test)]
 mod tests;
 
-pub use levels::depth;
 pub use hashed::{Hashed, add_input, find, remove, reserve};
 pub use laying::lay;
+pub use levels::depth;
 pub use making::make;
 pub use placing::place;
 pub use subscribing::{subscribe, unsubscribe, view, visits_of};

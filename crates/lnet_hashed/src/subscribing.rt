@@ -148,10 +148,7 @@ pub fn subscribe(
 
 /// Takes the view out of its slot, detached; `None` exactly where the slot is empty or there is none. It takes no memory.
 /// Constant time, beside the drop of the view's answers.
-pub fn unsubscribe(
-    views: &mut Vec<Option<Box<dyn View>>>,
-    id: usize,
-) -> Option<Box<dyn View>>
+pub fn unsubscribe(views: &mut Vec<Option<Box<dyn View>>>, id: usize) -> Option<Box<dyn View>>
     ensures some { IsSome result ↔ IsSome (slice_index_or views.old.items id None) }
     ensures detached { IfSome result (λ b. spec_of b ≡ None) }
     ensures kind { option_map kind_of result ≡ option_map kind_of (slice_index_or views.old.items id None) }
@@ -176,11 +173,7 @@ pub fn view(views: &Vec<Option<Box<dyn View>>>, id: usize) -> Option<&Box<dyn Vi
 
 /// How often the view of a slot read the network at the last event; `None` exactly where the slot is empty or there is none.
 /// Constant time.
-pub fn visits_of(
-    views: &Vec<Option<Box<dyn View>>>,
-    visits: &Vec<u64>,
-    id: usize,
-) -> Option<u64>
+pub fn visits_of(views: &Vec<Option<Box<dyn View>>>, visits: &Vec<u64>, id: usize) -> Option<u64>
     ensures { result ≡ option_map (λ _. slice_index_or visits.now.items id 0) (slice_index_or views.now.items id None) }
 {
     view(views, id)?;

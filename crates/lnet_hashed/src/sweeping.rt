@@ -63,11 +63,7 @@ fn pass(hashed: &mut Hashed, views: &mut Vec<Option<Box<dyn View>>>, visits: &mu
 /// until one removes nothing. Where each gate stands above its fanins one pass removes all, and a second finds nothing. At worst,
 /// where each gate stands below its fanins, there is a pass for each level that goes, and one more. A pass is linear in the
 /// numbers, beside what the views take.
-pub fn sweep(
-    hashed: &mut Hashed,
-    views: &mut Vec<Option<Box<dyn View>>>,
-    visits: &mut Vec<u64>,
-)
+pub fn sweep(hashed: &mut Hashed, views: &mut Vec<Option<Box<dyn View>>>, visits: &mut Vec<u64>)
     requires room { HasRoom hashed.old }
     requires fit { EachSlot (Fits spec_of kept room hashed.old.store.network hashed.old.room) views.old.items }
     ensures network { IsSwept hashed.old.store.network hashed.new.store.network }

@@ -80,7 +80,14 @@ fn follow(
         return Err("attached".into());
     }
     match view.kind() {
-        ViewKind::Depth => match subscribe(views, visits, &hashed.store, hashed.room, view, ViewSpec::Depth) {
+        ViewKind::Depth => match subscribe(
+            views,
+            visits,
+            &hashed.store,
+            hashed.room,
+            view,
+            ViewSpec::Depth,
+        ) {
             Ok(id) => Ok(id),
             Err(_) => Err("refused".into()),
         },
@@ -127,7 +134,13 @@ fn equal_operations_are_one_gate(rt: HostRuntime) -> Result<(), Fail> {
     assert_eq!(rt; both, plain(Node(4)));
     let again = on::<AigGates>(&mut hashed, &mut views, &mut visits, Op::And, &[b, a, c])?;
     assert_eq!(rt; again, both);
-    let none = on::<AigGates>(&mut hashed, &mut views, &mut visits, Op::And, &[a, a.flipped(true), c])?;
+    let none = on::<AigGates>(
+        &mut hashed,
+        &mut views,
+        &mut visits,
+        Op::And,
+        &[a, a.flipped(true), c],
+    )?;
     assert_eq!(rt; none, Signal::constant(false));
     assert_eq!(rt; hashed.store.live_count(), 5);
     // A majority in an and-inverter graph: of its four gates that of a and b is there.

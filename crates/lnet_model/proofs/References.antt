@@ -1,7 +1,6 @@
 -- How a change of one number changes the references, and how many there are.
-use Rattle.std.proofs.Common.{◌≡◌, ◌≢◌, ℕ, zero, suc, ◌+◌, ◌*◌, ◌<◌, ◌≤◌, max, Bool, true, false, cond, eqb, List, [], ◌∷◌, ◌++◌, length, Option, None, Some, refl, sym, ap, ◌∙◌, inl, inr, arith, length-append}
-use Rattle.std.specs.Prelude.{count_by, is_some}
-use Rattle.lnet_gates.specs.Gates.{GateValue}
+use Rattle.std.proofs.Common.{◌≡◌, ◌≢◌, ℕ, zero, suc, ◌+◌, ◌*◌, ◌<◌, ◌≤◌, max, true, false, cond, eqb, List, [], ◌∷◌, ◌++◌, length, Option, None, Some, refl, sym, ap, ◌∙◌, inl, inr, arith, length-append}
+use Rattle.std.specs.Prelude.{count_by}
 use Rattle.std.specs.List.{flat_map}
 use Rattle.std.proofs.lemmas.Bool.Decides.{eqb_tells}
 use Rattle.std.proofs.lemmas.List.Sums.{sum_by-cons, count_by-le-length}
@@ -10,11 +9,9 @@ use Rattle.lnet_gates.specs.declared.signal.Signal.{Signal}
 use Rattle.lnet_gates.specs.declared.gate.Op.{Op}
 use Rattle.lnet_gates.specs.declared.gate.Op.TheVariants.{And, Xor, Maj, Lut}
 use Rattle.lnet_gates.specs.Plans.{Takes}
-use Rattle.lnet_model.specs.Networks.{Entry, Constant, Input, IsGate, NetworkValue, Lookup, IsLive, entry_at, fanins_of}
-use Rattle.lnet_model.specs.Along.{at_entry, In, fanin_nodes, nodes_read}
-use Rattle.lnet_model.specs.Changes.{with_entry, AreLive}
-use Rattle.lnet_model.proofs.Changes.{with_entry-here, with_entry-apart}
-use Rattle.lnet_model.specs.Fanouts.{fan, references, slots_naming, IsParent}
+use Rattle.lnet_model.specs.Networks.{Entry, Constant, Input, IsGate, NetworkValue, Lookup, entry_at, fanins_of}
+use Rattle.lnet_model.specs.Along.{at_entry}
+use Rattle.lnet_model.specs.Fanouts.{fan, references, slots_naming}
 use Rattle.lnet_model.specs.Dags.{IsStored, numbers_of, NUMBERS, OUTPUTS}
 use Rattle.lnet_model.proofs.Numbers.{live-below-numbers, numbers-at-most}
 use Rattle.lnet_model.proofs.Rising.{by_number, entries-by_number}
@@ -133,64 +130,3 @@ few-by N stored n k o below cap =
 
 pub references-few : (N : NetworkValue) → IsStored N → (n : ℕ) → references N n ≤ 6 * NUMBERS + OUTPUTS
 references-few N stored n = few-by N stored n NUMBERS OUTPUTS (numbers-at-most N NUMBERS stored.below) stored.few_outputs
-
--- ---- what nothing names
-
-one-or-none : (b : Bool) → b ≡ false → ◌≡◌ {A = ℕ} (cond b 1 0) 0
-one-or-none true e = cc
-one-or-none false e = refl
-
-naming-none : (n : ℕ) (ss : List Signal) → (In n (nodes_read ss) → ⊥) → naming n ss ≡ 0
-naming-none n [] h = refl
-naming-none n (s ∷ ss) h =
-    let both = sum_by-cons (λ (s : Signal). cond (eqb s.node.0 n) 1 0) s ss in
-    let rest = naming-none n ss (λ i. h (inr i)) in
-    elim (eqb_tells s.node.0 n) as (λ _. naming n (s ∷ ss) ≡ 0) [
-      | inl p ↦ absurd (h (inl (sym p.1)))
-      | inr p ↦ (let zero = one-or-none (eqb s.node.0 n) p.0 in omega (arith, zero, both, rest))
-    ]
-
-pub names_in-none : (n : ℕ) (o : Option Entry) → (In n (fanin_nodes o) → ⊥) → names_in n o ≡ 0
-names_in-none n None h = refl
-names_in-none n (Some e) h = naming-none n (fanins_of e) h
-
-none-by : (N : NetworkValue) (n k a : ℕ) → ((p : ℕ) → IsParent N n p → ⊥) → length (by_number (entry_at N) (pairs_of n) a k) ≡ 0
-none-by N n zero a h = refl
-none-by N n (suc k) a h =
-    let sum = length-append (at_entry [] (pairs_of n a) (entry_at N a)) (by_number (entry_at N) (pairs_of n) (suc a) k) in
-    let one = pairs-count n a (entry_at N a) in
-    let here = names_in-none n (entry_at N a) (h a) in
-    let rest = none-by N n k (suc a) h in
-    omega arith
-
--- a node without parents that no output names has no reference
-pub references-none : (N : NetworkValue) (n : ℕ) → ((p : ℕ) → IsParent N n p → ⊥) → (In n (nodes_read N.outputs) → ⊥) → references N n ≡ 0
-unfolding references
-references-none N n parents outs =
-    let e = ap (λ zs. length zs) (fan-upto N n (numbers_of N) (omega arith)) in
-    let none = none-by N n (numbers_of N) 0 parents in
-    let o = naming-none n N.outputs outs in
-    omega arith
-
-not-free : (N : NetworkValue) (n : ℕ) → entry_at N n ≡ None → IsLive N n → ⊥
-not-free N n free live = let no : false ≡ true = sym (ap is_some free) ∙ live in cc
-
--- what isn't live has no reference
-pub references-free : (N : NetworkValue) (n : ℕ) → IsStored N → entry_at N n ≡ None → references N n ≡ 0
-references-free N n stored free =
-    references-none N n (λ p i. not-free N n free (stored.whole.closed p n i)) (λ i. not-free N n free (stored.whole.outputs_live n i))
-
--- a new gate on live fanins has none, too
-with_entry-outputs : (N : NetworkValue) (n : ℕ) (e : Entry) → (with_entry N n e).outputs ≡ N.outputs
-unfolding with_entry
-with_entry-outputs N n e = refl
-
-pub references-new : (N : NetworkValue) (n : ℕ) (g : GateValue) → IsStored N → entry_at N n ≡ None → AreLive N (nodes_read g.fanins) → references (with_entry N n (IsGate g)) n ≡ 0
-references-new N n g stored free live =
-    let M : NetworkValue = with_entry N n (IsGate g) in
-    let changed = references-changed M N n (λ q ne. with_entry-apart N n (IsGate g) q ne) (with_entry-outputs N n (IsGate g)) n in
-    let before = references-free N n stored free in
-    let here = ap (names_in n) (with_entry-here N n (IsGate g)) in
-    let none = names_in-none n (Some (IsGate g)) (λ i. not-free N n free (live n i)) in
-    let was = ap (names_in n) free in
-    omega arith

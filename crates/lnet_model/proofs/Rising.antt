@@ -97,7 +97,3 @@ pub entries-by_number : {A : Type 0} (F : ℕ → Entry → List A) (m : FinMap 
 entries-by_number F m k below =
     let e : k ≡ 0 + k = omega arith in
     each-number (get m) F k 0 (entries m) (λ q h. get-entries m q) (rising (entries m) (entries_sorted m)) (subst (λ z. Under z (entries m)) e (under-found k (entries m) (λ q h. below q (subst IsSome (sym (get-entries m q)) h))))
-
--- the entries of a map rise
-pub entries-rising : (m : FinMap nat_cmp Entry) → Rising 0 (entries m)
-entries-rising m = rising (entries m) (entries_sorted m)

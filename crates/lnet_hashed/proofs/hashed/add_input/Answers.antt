@@ -1,4 +1,4 @@
-use Rattle.std.proofs.Common.{◌≡◌, ◌+◌, ◌≤◌, sym, ap, subst, ◌∙◌, arith}
+use Rattle.std.proofs.Common.{sym, ap, subst, ◌∙◌, arith}
 use Rattle.lnet_model.specs.Dags.{IsDag, AreBelow}
 use Rattle.lnet_hashed.specs.Strashed.{least_free}
 use Rattle.lnet_hashed.specs.Views.{EachSlot, Fits}
@@ -22,7 +22,7 @@ tell-requires-clause-below_before g c =
 pub tell-requires-clause-fit : goal.tell-requires-clause-fit
 tell-requires-clause-fit g c =
     subst (λ N. EachSlot (Fits (λ b. (goal.View-dyn g (b.vtable, b.value)).spec_of b.value) (λ b. (goal.View-dyn g (b.vtable, b.value)).kept b.value) (λ b. (goal.View-dyn g (b.vtable, b.value)).room b.value) N c.make_room.new.hashed.room) c.make_room.new.views.items) (sym c.in-Ok.ensures.was)
-      (fits-same (λ b. (goal.View-dyn g (b.vtable, b.value)).spec_of b.value) (λ b. (goal.View-dyn g (b.vtable, b.value)).kept b.value) (λ b. (goal.View-dyn g (b.vtable, b.value)).room b.value) c.make_room.new.hashed.store.network c.add_input.new.self.network.inputs c.make_room.new.hashed.room c.make_room.new.views.items c.make_room.ensures.fit)
+    (fits-same (λ b. (goal.View-dyn g (b.vtable, b.value)).spec_of b.value) (λ b. (goal.View-dyn g (b.vtable, b.value)).kept b.value) (λ b. (goal.View-dyn g (b.vtable, b.value)).room b.value) c.make_room.new.hashed.store.network c.add_input.new.self.network.inputs c.make_room.new.hashed.room c.make_room.new.views.items c.make_room.ensures.fit)
 
 pub returns-in-Ok-clause-node : goal.returns-in-Ok-clause-node
 returns-in-Ok-clause-node g c =

@@ -1,4 +1,4 @@
-use Rattle.std.proofs.Common.{◌≡◌, ◌+◌, ◌≤◌, sym, ap, subst, ◌∙◌, arith}
+use Rattle.std.proofs.Common.{sym, ap, subst, ◌∙◌, arith}
 use Rattle.lnet_model.specs.Dags.{IsDag}
 use Rattle.lnet_hashed.specs.Strashed.{least_free}
 use Rattle.lnet_hashed.proofs.Adding.{least-is, added-live, added-below, added-count}

@@ -1,7 +1,7 @@
-use Rattle.std.proofs.Common.{◌≡◌, ap, sym, ◌∙◌, arith, Some, ◌-◌, ◌<◌, ◌≤◌}
+use Rattle.std.proofs.Common.{◌≡◌, ap, sym, ◌∙◌, arith, ◌-◌}
 use Rattle.std.specs.Prelude.{slice_get}
 use Rattle.lnet_model.specs.Dags.{numbers_of}
-use Rattle.lnet_hashed.proofs.Found.{held_from, found-begins, held-passed, held-here, held-ends}
+use Rattle.lnet_hashed.proofs.Found.{held_from, found-begins, held-passed, held-ends}
 use Rattle.lnet_hashed.proofs.hashed.find.Goals as goal
 
 pub loop-n-init : goal.loop-n-init

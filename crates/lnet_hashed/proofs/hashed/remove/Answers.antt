@@ -1,4 +1,4 @@
-use Rattle.std.proofs.Common.{◌≡◌, ◌+◌, ◌≤◌, ap, subst, ◌∙◌, sym, arith}
+use Rattle.std.proofs.Common.{ap, subst, ◌∙◌, sym, arith}
 use Rattle.lnet_model.specs.Networks.{entry_at}
 use Rattle.lnet_model.specs.Dags.{AreBelow}
 use Rattle.lnet_model.proofs.Changes.{without-here}

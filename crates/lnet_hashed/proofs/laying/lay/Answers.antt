@@ -1,12 +1,9 @@
-use Rattle.std.proofs.Common.{rules, ◌≡◌, ◌≤◌, ◌<◌, ◌+◌, ◌∷◌, ℕ, List, Result, Err, false, drop, length, ap, subst, sym, ◌∙◌, arith}
-use Rattle.lnet_tables.specs.declared.step.Step.{Step as StepValue}
+use Rattle.std.proofs.Common.{rules, ◌≡◌, ◌+◌, Result, Err, drop, ap, sym, ◌∙◌, arith}
 use Rattle.lnet_gates.specs.declared.signal.Signal.{Signal}
-use Rattle.lnet_gates.specs.Operands.{constant}
 use Rattle.lnet_store.specs.declared.store.AddError.{AddError}
-use Rattle.lnet_store.specs.declared.store.AddError.TheVariants.{Full, NoMemory}
 use Rattle.lnet_model.specs.Networks.{NetworkValue, live_count}
 use Rattle.lnet_hashed.specs.Strashed.{Placed}
-use Rattle.lnet_hashed.specs.Laid.{laid, laid_steps, Laid, signal_at}
+use Rattle.lnet_hashed.specs.Laid.{laid_steps, Laid, signal_at}
 use Rattle.lnet_hashed.proofs.LaidValues.{steps-from, laid_none, laid_done}
 use Rattle.lnet_hashed.proofs.laying.lay.Goals as goal
 
@@ -59,6 +56,6 @@ returns-clause-laid g c =
     let test = c.loop-i-test.false in
     let end = sym c.loop-i.invariant.laid ∙ laid_none g.G.Gates.form c.args.recipe.now.steps c.loop-i.i c.loop-i.hashed.store.network c.loop-i.laying.places.items (omega arith) in
     let signal : signal_at c.loop-i.laying.places.items c.args.recipe.now.root ≡ c.signal_at.result =
-        ap (λ ps. signal_at ps c.args.recipe.now.root) (sym c.as_slice.ensures.value) ∙ ap (signal_at c.as_slice.result.now) (sym c.root.ensures.value) ∙ sym c.signal_at.ensures in
+    ap (λ ps. signal_at ps c.args.recipe.now.root) (sym c.as_slice.ensures.value) ∙ ap (signal_at c.as_slice.result.now) (sym c.root.ensures.value) ∙ sym c.signal_at.ensures in
     laid_done g.G.Gates.form c.args.hashed.now.store.network c.loop-i.hashed.store.network c.args.recipe.now c.args.leaves.now c.loop-i.laying.places.items end
     ∙ ap (as-placed c.loop-i.hashed.store.network) signal

@@ -1,12 +1,11 @@
-use Rattle.std.proofs.Common.{◌≡◌, ◌<◌, ◌≤◌, ◌∷◌, ◌++◌, [], List, Result, Err, ap, subst, sym, ◌∙◌, arith}
+use Rattle.std.proofs.Common.{◌≡◌, List, Result, Err, ap, subst, sym, ◌∙◌, arith}
 use Rattle.lnet_gates.specs.Gates.{GateValue}
 use Rattle.lnet_gates.specs.declared.signal.Signal.{Signal}
 use Rattle.lnet_store.specs.declared.store.AddError.{AddError}
-use Rattle.lnet_store.specs.declared.store.AddError.TheVariants.{Full, NoMemory}
 use Rattle.lnet_model.specs.Along.{nodes_read}
 use Rattle.lnet_model.specs.Networks.{live_count}
 use Rattle.lnet_model.specs.Changes.{AreLive}
-use Rattle.lnet_hashed.specs.Strashed.{placed, Placed}
+use Rattle.lnet_hashed.specs.Strashed.{placed}
 use Rattle.lnet_hashed.specs.Laid.{laid_steps, step_gate}
 use Rattle.lnet_hashed.proofs.LaidValues.{operands-live, live-one_more, step-laid, step-within}
 use Rattle.lnet_hashed.proofs.laying.lay_step.Goals as goal
@@ -29,7 +28,7 @@ returns-in-Ok-clause-laid g c ss =
 pub returns-in-Ok-clause-live : goal.returns-in-Ok-clause-live
 returns-in-Ok-clause-live g c =
     subst (λ (ps : List Signal). AreLive c.place_noting.new.hashed.store.network (nodes_read ps)) (sym c.push.ensures.items)
-      (live-one_more c.place_noting.new.hashed.store.network c.args.laying.now.places.items c.in-Ok.signal (λ m i. c.place_noting.ensures.lives m (c.requires.live m i)) c.in-Ok.ensures.live)
+    (live-one_more c.place_noting.new.hashed.store.network c.args.laying.now.places.items c.in-Ok.signal (λ m i. c.place_noting.ensures.lives m (c.requires.live m i)) c.in-Ok.ensures.live)
 
 pub returns-in-Err-clause-full : goal.returns-in-Err-clause-full
 returns-in-Err-clause-full g c e ss =

@@ -1,7 +1,7 @@
-use Rattle.std.proofs.Common.{◌≡◌, ◌<◌, ◌≤◌, List, reverse, ap, subst, sym, ◌∙◌, arith}
+use Rattle.std.proofs.Common.{List, reverse, ap, subst, sym, ◌∙◌, arith}
 use Rattle.lnet_gates.specs.declared.signal.Node.{Node}
-use Rattle.lnet_model.specs.Networks.{NetworkValue, IsLive, live_count}
-use Rattle.lnet_hashed.specs.Strashed.{Placed, placed}
+use Rattle.lnet_model.specs.Networks.{IsLive, live_count}
+use Rattle.lnet_hashed.specs.Strashed.{Placed}
 use Rattle.lnet_hashed.specs.Undoing.{undone, IsUndoable}
 use Rattle.lnet_hashed.proofs.Newly.{IsTakenBack, placed-keeps-live, placed-same, placed-taken, reverse-after}
 use Rattle.lnet_hashed.proofs.laying.place_noting.Goals as goal

@@ -1,7 +1,5 @@
 use Rattle.std.proofs.Common.{◌≡◌, ◌<◌, IfOk, ap, subst, sym, ◌∙◌}
-use Rattle.lnet_gates.specs.declared.signal.Signal.{Signal}
 use Rattle.lnet_gates.specs.declared.planning.Plan.TheVariants.{Native, Steps}
-use Rattle.lnet_gates.specs.Gates.{GateValue}
 use Rattle.lnet_model.specs.Networks.{live_count}
 use Rattle.lnet_model.specs.Dags.{NUMBERS}
 use Rattle.lnet_hashed.specs.Strashed.{Placed, placed}

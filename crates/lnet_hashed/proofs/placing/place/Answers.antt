@@ -1,4 +1,4 @@
-use Rattle.std.proofs.Common.{◌≡◌, ◌<◌, ◌≤◌, IfOk, sym, ap, subst, ◌∙◌, arith}
+use Rattle.std.proofs.Common.{◌≡◌, ◌<◌, IfOk, sym, ap, subst, ◌∙◌, arith}
 use Rattle.lnet_gates.specs.NormalLaws.{IsNativeForm}
 use Rattle.lnet_gates.specs.Natives.{IsNativeGate}
 use Rattle.lnet_gates.specs.declared.normal.Normal.TheVariants.{Is, Gate}

@@ -1,6 +1,6 @@
-use Rattle.std.proofs.Common.{◌≡◌, ◌+◌, ◌<◌, ◌≤◌, Result, Err, sym, ap, ◌∙◌, arith}
+use Rattle.std.proofs.Common.{◌≡◌, Result, Err, sym, ap, ◌∙◌, arith}
 use Rattle.lnet_store.specs.declared.store.AddError.{AddError}
-use Rattle.lnet_store.specs.declared.store.AddError.TheVariants.{Full, NoMemory}
+use Rattle.lnet_store.specs.declared.store.AddError.TheVariants.{Full}
 use Rattle.lnet_hashed.proofs.Adding.{placed-more}
 use Rattle.lnet_hashed.proofs.placing.place_key.Goals as goal
 

@@ -1,5 +1,5 @@
-use Rattle.std.proofs.Common.{◌≡◌, ◌≤◌, ℕ, None, IfSome, slice_index_or, ◌<◌}
-use Rattle.lnet_hashed.specs.Views.{EachSlot, Fits, Kept, SlotKept, SlotsKept}
+use Rattle.std.proofs.Common.{ℕ, None, IfSome, slice_index_or, ◌<◌}
+use Rattle.lnet_hashed.specs.Views.{EachSlot, Fits, Kept, SlotsKept}
 use Rattle.lnet_hashed.proofs.telling.reserve_all.Given as goal
 
 -- the views below i have the room

@@ -1,6 +1,6 @@
-use Rattle.std.proofs.Common.{◌≡◌, ◌≤◌, ℕ, None, IfSome, slice_index_or, ◌<◌}
+use Rattle.std.proofs.Common.{◌≤◌, ℕ, None, IfSome, slice_index_or, ◌<◌}
 use Rattle.lnet_model.specs.Changes.{was}
-use Rattle.lnet_hashed.specs.Views.{Fits, Kept, SlotKept, SlotsKept}
+use Rattle.lnet_hashed.specs.Views.{Fits, Kept, SlotsKept}
 use Rattle.lnet_hashed.proofs.telling.tell.Given as goal
 
 -- the views below i are in step with the network, and the others with the one before

@@ -1,4 +1,4 @@
-use Rattle.std.proofs.Common.{◌≡◌, ◌≤◌, ◌+◌, sym, subst, arith}
+use Rattle.std.proofs.Common.{sym, subst, arith}
 use Rattle.lnet_model.specs.Dags.{AreBelow}
 use Rattle.lnet_hashed.proofs.First.{some-live, first-low}
 use Rattle.lnet_hashed.proofs.hashed.Hashed.new.Goals as goal

@@ -3,7 +3,7 @@
 
     bench/tables.py [RUNS [CALLS]]     RUNS of the program, 5 where it is left out, each with CALLS of each call
 
-What runs is the built program crates/lnet_bench/out/lnet_bench, which `rt run` in its folder and the gate build. A figure
+What runs is the built program crates/lnet_timing/out/lnet_timing, which `rt run` in its folder and the gate build. A figure
 is the median of the runs in nanoseconds of a call; the ratio is to the cofactor of one word in plain arithmetic.
 """
 import os
@@ -12,7 +12,7 @@ import subprocess
 import sys
 
 TOP = os.path.dirname(os.path.dirname(os.path.abspath(__file__)))
-PROGRAM = os.path.join(TOP, "crates", "lnet_bench", "out", "lnet_bench")
+PROGRAM = os.path.join(TOP, "crates", "lnet_timing", "out", "lnet_timing")
 
 
 def lines(calls):

@@ -1,4 +1,4 @@
-//! Times calls of the library: `lnet_bench CALLS` makes each call so many times, and prints the nanoseconds of each.
+//! Times calls of the library: `lnet_timing CALLS` makes each call so many times, and prints the nanoseconds of each.
 #![tactic(auto)]
 
 mod covers;
@@ -20,6 +20,6 @@ fn main(rt: HostRuntime) -> io::Result<()> {
             gates::time_all(&rt, calls)?;
             covers::time_all(&rt, rt.alloc(), calls)
         }
-        None => println!(rt; "usage: lnet_bench CALLS"),
+        None => println!(rt; "usage: lnet_timing CALLS"),
     }
 }

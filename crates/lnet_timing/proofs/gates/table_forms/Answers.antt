@@ -2,7 +2,7 @@ use Rattle.std.proofs.Common.{◌≤◌, List, length, ap, sym, subst, lit<}
 use Rattle.std.proofs.lemmas.Nat.{xor_lt}
 use Rattle.lnet_gates.specs.Gates.{GateValue}
 use Rattle.lnet_gates.specs.declared.signal.Signal.{Signal}
-use Rattle.lnet_bench.proofs.gates.table_forms.Goals as goal
+use Rattle.lnet_timing.proofs.gates.table_forms.Goals as goal
 
 pub loop-call-preserved : goal.loop-call-preserved
 loop-call-preserved c =

@@ -1,6 +1,6 @@
 use Rattle.std.proofs.Common.{◌≤◌, length}
 use Rattle.lnet_gates.specs.LutForms.{HasCount}
-use Rattle.lnet_bench.proofs.gates.table_forms.Given as goal
+use Rattle.lnet_timing.proofs.gates.table_forms.Given as goal
 
 abbrev pub invariant-loop-call : goal.invariant-loop-call
 invariant-loop-call l = record {

@@ -1,5 +1,5 @@
 -- A network seen as one of a kind: what is placed, laid and made, and what views keep, is the same.
-use Rattle.std.proofs.Common.{◌≡◌, ℕ, Bool, List, [], ◌∷◌, ◌++◌, length, IsSome, Option, None, Some, IfSome, option_map, slice_index_or, refl, sym, ap, subst, ◌∙◌}
+use Rattle.std.proofs.Common.{◌≡◌, ℕ, Bool, List, [], ◌∷◌, ◌++◌, length, IsSome, Option, None, Some, IfSome, Result, Ok, Err, IfOk, OnErr, option_map, slice_index_or, refl, sym, ap, subst, ◌∙◌}
 use Rattle.lnet_tables.specs.declared.step.Step.{Step}
 use Rattle.lnet_tables.specs.Recipes.{RecipeValue}
 use Rattle.lnet_gates.specs.declared.gate.Kind.{Kind}
@@ -10,9 +10,10 @@ use Rattle.lnet_gates.specs.declared.planning.Plan.{Plan}
 use Rattle.lnet_gates.specs.declared.planning.Plan.TheVariants.{Native, Steps}
 use Rattle.lnet_gates.specs.declared.signal.Signal.{Signal}
 use Rattle.lnet_gates.specs.Gates.{GateValue, KeyValue}
-use Rattle.lnet_gates.specs.NormalLaws.{keyed_gate}
+use Rattle.lnet_gates.specs.NormalLaws.{NormalLaws, keyed_gate}
 use Rattle.lnet_gates.specs.Operands.{constant}
-use Rattle.lnet_gates.specs.Plans.{plan_of}
+use Rattle.lnet_gates.specs.Natives.{IsNativeGate, FitsWord}
+use Rattle.lnet_gates.specs.Plans.{Takes, plan_of}
 use Rattle.lnet_model.specs.Networks.{NetworkValue, Entry, IsGate, IsLive, entry_at, live_count}
 use Rattle.lnet_model.specs.Along.{over, In, nodes_read}
 use Rattle.lnet_model.specs.Changes.{with_entry, AreLive}
@@ -20,9 +21,10 @@ use Rattle.lnet_model.specs.Fanouts.{fan}
 use Rattle.lnet_model.specs.Answers.{Answer, InStep, from_scratch}
 use Rattle.lnet_model.specs.declared.view_spec.ViewSpec.{ViewSpec}
 use Rattle.lnet_model.specs.declared.view_spec.ViewSpec.TheVariants.{Depth, Fanout, Cuts}
-use Rattle.lnet_hashed.specs.Strashed.{of_kind, found, least_free, Placed, newly_placed, placed, placed_key, placed_form}
+use Rattle.lnet_hashed.specs.Strashed.{IsStrashed, of_kind, found, least_free, Placed, newly_placed, placed, placed_key, placed_form}
 use Rattle.lnet_hashed.specs.Laid.{Laid, laid_steps, laid, by_plan, made, step_gate, signal_at}
 use Rattle.lnet_hashed.specs.Views.{EachSlot, Fits}
+use Rattle.lnet_hashed.proofs.LaidValues.{strashed-made}
 
 -- what is placed, in a network seen so
 abbrev pub kinded : Kind → Placed → Placed
@@ -117,3 +119,9 @@ module _ {B : Type 0} (spec_of : B → Option ViewSpec) (kept : B → ℕ → Op
         };
         room_enough = f.room_enough;
       }
+
+-- ---- after an operation
+
+pub strashed-after : (kind : Kind) (form : GateValue → Normal) (laws : NormalLaws (IsNativeGate kind) form) (N M : NetworkValue) (op : Op) (operands : List Signal) → Takes op (length operands) → FitsWord op → {E : Type 0} (r : Result Signal E) → IfOk r (λ s. made kind form N op operands ≡ record { network = M; signal = s }) → OnErr r (M ≡ N) → IsStrashed kind form N → IsStrashed kind form M
+strashed-after kind form laws N M op operands takes fits (Ok s) is same h = subst (λ (p : Placed). IsStrashed kind form p.network) is (strashed-made kind form laws N op operands takes fits h)
+strashed-after kind form laws N M op operands takes fits (Err e) is same h = subst (IsStrashed kind form) (sym same) h

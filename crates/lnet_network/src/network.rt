@@ -1,6 +1,7 @@
 //! Networks: a hashed store of gates of one kind, and views in slots.
 
 ghost use Rattle.std.specs.Prelude.{◌≡◌, ◌≤◌, ◌<◌, ◌-◌, [], IfOk, OnOk, OnErr, Err, length};
+ghost use Rattle.lnet_gates.specs.Natives.{FitsWord};
 ghost use Rattle.lnet_gates.specs.Plans.{Takes};
 ghost use Rattle.lnet_model.specs.Along.{nodes_read};
 ghost use Rattle.lnet_model.specs.Changes.{AreLive};
@@ -37,6 +38,18 @@ impl<G: Gates> Model for Core<G> {
     ghost view = { λ c. record { network = of_kind G.KIND c.hashed.store.network; room = c.hashed.room } };
 
     ghost invariant = { λ c. IsStrashed G.KIND G.form c.hashed.store.network × HasRoom c.hashed };
+}
+
+/// A table of a look-up table's gate is a word: said for the proofs of the calls that make gates.
+fn word_fits(op: &Op)
+    ensures { FitsWord op.now }
+{
+    match op {
+        Op::Lut(table) => {
+            let _word = *table;
+        }
+        _ => {}
+    }
 }
 
 /// A network of one kind, and views in slots.
@@ -86,6 +99,7 @@ impl<G: Gates> Network<G> {
         ensures in_step { EachSlot (Fits spec_of kept room self.new.core.network self.new.core.room) self.new.views.items }
         ensures kept { SlotsKept (Kept kind_of spec_of room) self.old.views.items self.new.views.items }
     {
+        word_fits(&op);
         make::<G>(
             &mut self.core.hashed,
             &mut self.views,

@@ -7,7 +7,7 @@ use Rattle.lnet_model.specs.Dags.{NUMBERS}
 use Rattle.lnet_hashed.specs.Strashed.{of_kind, Placed, IsStrashed}
 use Rattle.lnet_hashed.specs.Laid.{made}
 use Rattle.lnet_hashed.specs.Views.{EachSlot, Fits}
-use Rattle.lnet_network.proofs.OfKind.{kinded, count-kind, made-kind, live-kind, fits-kind, kind-fits}
+use Rattle.lnet_network.proofs.OfKind.{strashed-after, kinded, count-kind, made-kind, live-kind, fits-kind, kind-fits}
 use Rattle.lnet_network.proofs.network.Network.gate.Goals as goal
 
 if-ok : {A E : Type 0} {P Q : A → Type 0} (r : Result A E) → ((a : A) → P a → Q a) → IfOk r P → IfOk r Q
@@ -24,7 +24,8 @@ make-requires-clause-fit g c =
       (subst (λ n. EachSlot (Fits (λ b. (goal.View-dyn g (b.vtable, b.value)).spec_of b.value) (λ b. (goal.View-dyn g (b.vtable, b.value)).kept b.value) (λ b. (goal.View-dyn g (b.vtable, b.value)).room b.value) n.core.network n.core.room) n.views.items) (sym c.self.view_is) c.requires.in_step)
 
 pub invariant_of-self : goal.invariant_of-self
-invariant_of-self g c = ?
+invariant_of-self g c =
+    (strashed-after g.G.Gates.KIND g.G.Gates.form g.met.G.Gates.laws c.self.inside.0.0.hashed.store.network c.make.new.hashed.store.network c.args.op c.args.operands.now c.requires.arity c.word_fits.ensures c.make.result c.make.ensures.made c.make.ensures.refused c.self.invariant.0, c.make.ensures.room)
 
 pub returns-clause-made : goal.returns-clause-made
 returns-clause-made g c =

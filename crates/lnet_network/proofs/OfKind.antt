@@ -24,7 +24,10 @@ use Rattle.lnet_model.specs.declared.view_spec.ViewSpec.TheVariants.{Depth, Fano
 use Rattle.lnet_hashed.specs.Strashed.{IsStrashed, of_kind, found, least_free, Placed, newly_placed, placed, placed_key, placed_form}
 use Rattle.lnet_hashed.specs.Laid.{Laid, laid_steps, laid, by_plan, made, step_gate, signal_at}
 use Rattle.lnet_hashed.specs.Views.{EachSlot, Fits}
+use Rattle.lnet_store.specs.StoreValues.{with_input}
+use Rattle.lnet_hashed.specs.Swept.{IsSwept}
 use Rattle.lnet_hashed.proofs.LaidValues.{strashed-made}
+use Rattle.lnet_hashed.proofs.Strashing.{strashed-fewer}
 
 -- what is placed, in a network seen so
 abbrev pub kinded : Kind → Placed → Placed
@@ -125,3 +128,25 @@ module _ {B : Type 0} (spec_of : B → Option ViewSpec) (kept : B → ℕ → Op
 pub strashed-after : (kind : Kind) (form : GateValue → Normal) (laws : NormalLaws (IsNativeGate kind) form) (N M : NetworkValue) (op : Op) (operands : List Signal) → Takes op (length operands) → FitsWord op → {E : Type 0} (r : Result Signal E) → IfOk r (λ s. made kind form N op operands ≡ record { network = M; signal = s }) → OnErr r (M ≡ N) → IsStrashed kind form N → IsStrashed kind form M
 strashed-after kind form laws N M op operands takes fits (Ok s) is same h = subst (λ (p : Placed). IsStrashed kind form p.network) is (strashed-made kind form laws N op operands takes fits h)
 strashed-after kind form laws N M op operands takes fits (Err e) is same h = subst (IsStrashed kind form) (sym same) h
+
+-- ---- after a sweep
+
+pub swept-kind : (kind : Kind) (N M : NetworkValue) → IsSwept N M → IsSwept (of_kind kind N) (of_kind kind M)
+unfolding entry_at
+swept-kind kind N M h = record {
+  trimmed = record { kind = refl; inputs = h.trimmed.inputs; outputs = h.trimmed.outputs; reached = h.trimmed.reached; others = h.trimmed.others; left = h.trimmed.left };
+  gone = h.gone;
+}
+
+pub swept-strashed : (kind : Kind) (form : GateValue → Normal) (N M : NetworkValue) → IsSwept N M → IsStrashed kind form N → IsStrashed kind form M
+swept-strashed kind form N M h = strashed-fewer kind form M N (λ n g e. sym (h.trimmed.left n (subst IsSome (sym e) refl)) ∙ e)
+
+-- ---- after an input
+
+pub input-kind : (kind : Kind) (N : NetworkValue) (n : ℕ) → of_kind kind (with_input N n) ≡ with_input (of_kind kind N) n
+unfolding with_input
+input-kind kind N n = refl
+
+pub free-kind : (kind : Kind) (N : NetworkValue) → least_free (of_kind kind N) ≡ least_free N
+unfolding least_free
+free-kind kind N = refl

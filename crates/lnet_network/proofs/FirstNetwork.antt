@@ -3,7 +3,7 @@ use Rattle.std.proofs.Common.{◌≡◌, ℕ, ◌<◌, IsSome, Some, refl, sym, 
 use Rattle.lnet_gates.specs.declared.gate.Kind.{Kind}
 use Rattle.lnet_gates.specs.declared.normal.Normal.{Normal}
 use Rattle.lnet_gates.specs.Gates.{GateValue}
-use Rattle.lnet_model.specs.Networks.{NetworkValue, Constant, IsGate, entry_at}
+use Rattle.lnet_model.specs.Networks.{Constant, IsGate, entry_at}
 use Rattle.lnet_model.specs.Changes.{GateAt}
 use Rattle.lnet_store.specs.StoreValues.{first_network}
 use Rattle.lnet_store.proofs.StoreLemmas.{first-stored}

@@ -10,15 +10,15 @@ use Rattle.lnet_gates.specs.declared.planning.Plan.{Plan}
 use Rattle.lnet_gates.specs.declared.planning.Plan.TheVariants.{Native, Steps}
 use Rattle.lnet_gates.specs.declared.signal.Signal.{Signal}
 use Rattle.lnet_gates.specs.Gates.{GateValue, KeyValue}
-use Rattle.lnet_gates.specs.NormalLaws.{NormalLaws, keyed_gate}
+use Rattle.lnet_gates.specs.NormalLaws.{NormalLaws}
 use Rattle.lnet_gates.specs.Operands.{constant}
 use Rattle.lnet_gates.specs.Natives.{IsNativeGate, FitsWord}
 use Rattle.lnet_gates.specs.Plans.{Takes, plan_of}
-use Rattle.lnet_model.specs.Networks.{NetworkValue, Entry, IsGate, IsLive, entry_at, live_count}
-use Rattle.lnet_model.specs.Along.{over, In, nodes_read}
+use Rattle.lnet_model.specs.Networks.{NetworkValue, entry_at, live_count}
+use Rattle.lnet_model.specs.Along.{over}
 use Rattle.lnet_model.specs.Changes.{with_entry, AreLive}
 use Rattle.lnet_model.specs.Fanouts.{fan}
-use Rattle.lnet_model.specs.Answers.{Answer, InStep, from_scratch}
+use Rattle.lnet_model.specs.Answers.{Answer, from_scratch}
 use Rattle.lnet_model.specs.declared.view_spec.ViewSpec.{ViewSpec}
 use Rattle.lnet_model.specs.declared.view_spec.ViewSpec.TheVariants.{Depth, Fanout, Cuts}
 use Rattle.lnet_hashed.specs.Strashed.{IsStrashed, of_kind, found, least_free, Placed, newly_placed, placed, placed_key, placed_form}

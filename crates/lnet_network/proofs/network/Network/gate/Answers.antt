@@ -1,10 +1,9 @@
-use Rattle.std.proofs.Common.{◌≡◌, ◌<◌, ◌≤◌, IfOk, Result, Ok, Err, refl, sym, ap, subst, ◌∙◌}
-use Rattle.lnet_gates.specs.declared.signal.Signal.{Signal}
-use Rattle.lnet_model.specs.Networks.{NetworkValue, live_count}
+use Rattle.std.proofs.Common.{◌<◌, IfOk, Result, Ok, Err, sym, ap, subst, ◌∙◌}
+use Rattle.lnet_model.specs.Networks.{live_count}
 use Rattle.lnet_model.specs.Along.{nodes_read}
 use Rattle.lnet_model.specs.Changes.{AreLive}
 use Rattle.lnet_model.specs.Dags.{NUMBERS}
-use Rattle.lnet_hashed.specs.Strashed.{of_kind, Placed, IsStrashed}
+use Rattle.lnet_hashed.specs.Strashed.{Placed}
 use Rattle.lnet_hashed.specs.Laid.{made}
 use Rattle.lnet_hashed.specs.Views.{EachSlot, Fits}
 use Rattle.lnet_network.proofs.OfKind.{strashed-after, kinded, count-kind, made-kind, live-kind, fits-kind, kind-fits}
@@ -21,7 +20,7 @@ make-requires-clause-live g c =
 pub make-requires-clause-fit : goal.make-requires-clause-fit
 make-requires-clause-fit g c =
     kind-fits (λ b. (goal.View-dyn g (b.vtable, b.value)).spec_of b.value) (λ b. (goal.View-dyn g (b.vtable, b.value)).kept b.value) (λ b. (goal.View-dyn g (b.vtable, b.value)).room b.value) g.G.Gates.KIND c.self.inside.0.0.hashed.store.network c.self.inside.0.0.hashed.room c.self.inside.0.1.0.items
-      (subst (λ n. EachSlot (Fits (λ b. (goal.View-dyn g (b.vtable, b.value)).spec_of b.value) (λ b. (goal.View-dyn g (b.vtable, b.value)).kept b.value) (λ b. (goal.View-dyn g (b.vtable, b.value)).room b.value) n.core.network n.core.room) n.views.items) (sym c.self.view_is) c.requires.in_step)
+    (subst (λ n. EachSlot (Fits (λ b. (goal.View-dyn g (b.vtable, b.value)).spec_of b.value) (λ b. (goal.View-dyn g (b.vtable, b.value)).kept b.value) (λ b. (goal.View-dyn g (b.vtable, b.value)).room b.value) n.core.network n.core.room) n.views.items) (sym c.self.view_is) c.requires.in_step)
 
 pub invariant_of-self : goal.invariant_of-self
 invariant_of-self g c =

@@ -1,4 +1,4 @@
-use Rattle.std.proofs.Common.{◌≡◌, ◌≤◌, ◌-◌, sym, ap, ◌∙◌, arith}
+use Rattle.std.proofs.Common.{◌-◌, sym, ap, ◌∙◌, arith}
 use Rattle.lnet_model.specs.Networks.{live_count}
 use Rattle.lnet_views.proofs.Counts.{live-below}
 use Rattle.lnet_network.proofs.OfKind.{count-kind}

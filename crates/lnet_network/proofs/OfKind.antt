@@ -9,6 +9,7 @@ use Rattle.lnet_gates.specs.declared.normal.Normal.TheVariants.{Is, Gate}
 use Rattle.lnet_gates.specs.declared.planning.Plan.{Plan}
 use Rattle.lnet_gates.specs.declared.planning.Plan.TheVariants.{Native, Steps}
 use Rattle.lnet_gates.specs.declared.signal.Signal.{Signal}
+use Rattle.lnet_gates.specs.declared.signal.Node.{Node}
 use Rattle.lnet_gates.specs.Gates.{GateValue, KeyValue}
 use Rattle.lnet_gates.specs.NormalLaws.{NormalLaws}
 use Rattle.lnet_gates.specs.Operands.{constant}
@@ -27,7 +28,7 @@ use Rattle.lnet_hashed.specs.Views.{EachSlot, Fits}
 use Rattle.lnet_store.specs.StoreValues.{with_input}
 use Rattle.lnet_hashed.specs.Swept.{IsSwept}
 use Rattle.lnet_hashed.proofs.LaidValues.{strashed-made}
-use Rattle.lnet_hashed.proofs.Strashing.{strashed-fewer}
+use Rattle.lnet_hashed.proofs.Strashing.{strashed-fewer, strashed-with_input}
 
 -- what is placed, in a network seen so
 abbrev pub kinded : Kind → Placed → Placed
@@ -150,3 +151,7 @@ input-kind kind N n = refl
 pub free-kind : (kind : Kind) (N : NetworkValue) → least_free (of_kind kind N) ≡ least_free N
 unfolding least_free
 free-kind kind N = refl
+
+pub strashed-entered : (kind : Kind) (form : GateValue → Normal) (N M : NetworkValue) (S : Type 0) {E : Type 0} (r : Result Node E) → IfOk r (λ n. M ≡ with_input N n.0) → OnErr r ((M ≡ N) × S) → IsStrashed kind form N → IsStrashed kind form M
+strashed-entered kind form N M S (Ok n) is same h = subst (IsStrashed kind form) (sym is) (strashed-with_input kind form N n.0 h)
+strashed-entered kind form N M S (Err e) is same h = subst (IsStrashed kind form) (sym same.0) h

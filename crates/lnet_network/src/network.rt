@@ -1,6 +1,6 @@
 //! Networks: a hashed store of gates of one kind, and views in slots.
 
-ghost use Rattle.std.specs.Prelude.{◌≡◌, ◌≤◌, ◌<◌, ◌-◌, [], IfOk, OnErr, Err, length};
+ghost use Rattle.std.specs.Prelude.{◌≡◌, ◌≤◌, ◌<◌, ◌-◌, [], ◌↔◌, IfOk, OnOk, OnErr, Err, length, false};
 ghost use Rattle.lnet_gates.specs.Natives.{FitsWord};
 ghost use Rattle.lnet_gates.specs.Plans.{Takes};
 ghost use Rattle.lnet_model.specs.Along.{nodes_read};
@@ -9,12 +9,12 @@ ghost use Rattle.lnet_model.specs.Dags.{NUMBERS};
 ghost use Rattle.lnet_hashed.specs.Laid.{made};
 ghost use Rattle.lnet_hashed.specs.Views.{EachSlot, Fits, Kept, SlotsKept};
 ghost use Rattle.lnet_model.specs.Networks.{live_count};
-ghost use Rattle.lnet_store.specs.StoreValues.{first_network};
-ghost use Rattle.lnet_hashed.specs.Strashed.{of_kind};
+ghost use Rattle.lnet_store.specs.StoreValues.{first_network, with_input};
+ghost use Rattle.lnet_hashed.specs.Strashed.{of_kind, least_free};
 ghost use Rattle.lnet_hashed.specs.Swept.{IsSwept};
 
 use lnet_gates::{Gates, Op, Signal};
-use lnet_hashed::{Hashed, make, sweep};
+use lnet_hashed::{Hashed, add_input, make, sweep};
 use lnet_store::{AddError, View};
 use std::alloc::{AllocError, Global};
 use std::marker::{Model, PhantomData};
@@ -29,6 +29,7 @@ pub struct Core<G: Gates> {
 impl<G: Gates> Model for Core<G> {
     ghost use Rattle.lnet_hashed.specs.Strashed.{IsStrashed, of_kind};
     ghost use Rattle.lnet_hashed.specs.Rooms.{HasRoom};
+
     ghost use Rattle.lnet_network.specs.Cores.{CoreValue, core_code};
 
     ghost Value = { CoreValue };
@@ -107,6 +108,28 @@ impl<G: Gates> Network<G> {
             op,
             operands,
         )
+    }
+
+    /// A new input, under the least number that isn't live. `Full` exactly where every number is live; `NoMemory` never where
+    /// `spare` is above 0. Refused, the network is as it was. Constant time, amortized, while nodes are added only.
+    pub fn input(&mut self) -> Result<Signal, AddError>
+        requires in_step { EachSlot (Fits spec_of kept room self.old.core.network self.old.core.room) self.old.views.items }
+        ensures signal { IfOk result (λ s. s ≡ record { node = record { 0 = least_free self.old.core.network }; complement = false }) }
+        ensures network { OnOk result (self.new.core.network ≡ with_input self.old.core.network (least_free self.old.core.network)) }
+        ensures refused { OnErr result (self.new.core.network ≡ self.old.core.network) }
+        ensures grows { self.old.core.room ≤ self.new.core.room }
+        ensures full { (result ≡ Err AddError.Full) ↔ (live_count self.old.core.network ≡ NUMBERS) }
+        ensures memory { result ≡ Err AddError.NoMemory → self.old.core.room ≤ live_count self.old.core.network }
+        ensures in_step { EachSlot (Fits spec_of kept room self.new.core.network self.new.core.room) self.new.views.items }
+        ensures kept { SlotsKept (Kept kind_of spec_of room) self.old.views.items self.new.views.items }
+    {
+        match add_input(&mut self.core.hashed, &mut self.views, &mut self.visits) {
+            Ok(node) => Ok(Signal {
+                node,
+                complement: false,
+            }),
+            Err(error) => Err(error),
+        }
     }
 
     /// Removes each gate that no output reaches. It takes no memory, and can't be refused. Linear in the numbers where gates

@@ -2,5 +2,7 @@
 #![tactic(auto)]
 
 mod network;
+#[cfg(test)]
+mod tests;
 
 pub use network::Network;

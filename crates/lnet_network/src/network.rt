@@ -1,6 +1,6 @@
 //! Networks: a hashed store of gates of one kind, and views in slots.
 
-ghost use Rattle.std.specs.Prelude.{◌≡◌, ◌≤◌, ◌<◌, ◌-◌, [], ◌↔◌, IfOk, OnOk, OnErr, Err, length, false};
+ghost use Rattle.std.specs.Prelude.{◌≡◌, ◌≤◌, ◌<◌, ◌-◌, [], ◌↔◌, IfOk, OnOk, OnErr, IsTrue, Err, length, false};
 ghost use Rattle.lnet_gates.specs.Natives.{FitsWord};
 ghost use Rattle.lnet_gates.specs.Plans.{Takes};
 ghost use Rattle.lnet_model.specs.Along.{nodes_read};
@@ -8,12 +8,12 @@ ghost use Rattle.lnet_model.specs.Changes.{AreLive};
 ghost use Rattle.lnet_model.specs.Dags.{NUMBERS};
 ghost use Rattle.lnet_hashed.specs.Laid.{made};
 ghost use Rattle.lnet_hashed.specs.Views.{EachSlot, Fits, Kept, SlotsKept};
-ghost use Rattle.lnet_model.specs.Networks.{live_count};
+ghost use Rattle.lnet_model.specs.Networks.{IsLive, live_count};
 ghost use Rattle.lnet_store.specs.StoreValues.{first_network, with_input};
 ghost use Rattle.lnet_hashed.specs.Strashed.{of_kind, least_free};
 ghost use Rattle.lnet_hashed.specs.Swept.{IsSwept};
 
-use lnet_gates::{Gates, Op, Signal};
+use lnet_gates::{Gates, Node, Op, Signal};
 use lnet_hashed::{Hashed, add_input, make, sweep};
 use lnet_store::{AddError, View};
 use std::alloc::{AllocError, Global};
@@ -29,7 +29,6 @@ pub struct Core<G: Gates> {
 impl<G: Gates> Model for Core<G> {
     ghost use Rattle.lnet_hashed.specs.Strashed.{IsStrashed, of_kind};
     ghost use Rattle.lnet_hashed.specs.Rooms.{HasRoom};
-
     ghost use Rattle.lnet_network.specs.Cores.{CoreValue, core_code};
 
     ghost Value = { CoreValue };
@@ -142,5 +141,19 @@ impl<G: Gates> Network<G> {
         ensures kept { SlotsKept (Kept kind_of spec_of room) self.old.views.items self.new.views.items }
     {
         sweep(&mut self.core.hashed, &mut self.views, &mut self.visits);
+    }
+
+    /// How many numbers are live: the constant, the inputs and the gates. Constant time.
+    pub fn live_count(&self) -> u32
+        ensures { result ≡ live_count self.now.core.network }
+    {
+        self.core.hashed.store.live_count()
+    }
+
+    /// Whether the number is live. Constant time.
+    pub fn is_live(&self, n: Node) -> bool
+        ensures { IsTrue result ↔ IsLive self.now.core.network n.0 }
+    {
+        self.core.hashed.store.is_live(n)
     }
 }

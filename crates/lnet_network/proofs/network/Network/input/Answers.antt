@@ -1,12 +1,10 @@
-use Rattle.std.proofs.Common.{◌≡◌, ◌≤◌, ℕ, false, IfOk, OnOk, Result, Ok, Err, refl, sym, ap, subst, ◌∙◌}
+use Rattle.std.proofs.Common.{◌≡◌, ◌≤◌, ℕ, false, IfOk, OnOk, Result, Ok, Err, sym, ap, subst, ◌∙◌}
 use Rattle.lnet_gates.specs.declared.signal.Signal.{Signal}
 use Rattle.lnet_gates.specs.declared.signal.Node.{Node}
 use Rattle.lnet_store.specs.declared.store.AddError.{AddError}
-use Rattle.lnet_store.specs.declared.store.AddError.TheVariants.{Full, NoMemory}
 use Rattle.lnet_model.specs.Networks.{live_count}
-use Rattle.lnet_model.specs.Dags.{NUMBERS}
 use Rattle.lnet_store.specs.StoreValues.{with_input}
-use Rattle.lnet_hashed.specs.Strashed.{of_kind, least_free, IsStrashed}
+use Rattle.lnet_hashed.specs.Strashed.{of_kind, least_free}
 use Rattle.lnet_hashed.specs.Views.{EachSlot, Fits}
 use Rattle.lnet_network.proofs.OfKind.{count-kind, input-kind, free-kind, strashed-entered, fits-kind, kind-fits}
 use Rattle.lnet_network.proofs.network.Network.input.Goals.{in-Ok, in-Err}
@@ -30,7 +28,7 @@ no-node r p q = cc
 pub add_input-requires-clause-fit : goal.add_input-requires-clause-fit
 add_input-requires-clause-fit g c =
     kind-fits (λ b. (goal.View-dyn g (b.vtable, b.value)).spec_of b.value) (λ b. (goal.View-dyn g (b.vtable, b.value)).kept b.value) (λ b. (goal.View-dyn g (b.vtable, b.value)).room b.value) g.G.Gates.KIND c.self.inside.0.0.hashed.store.network c.self.inside.0.0.hashed.room c.self.inside.0.1.0.items
-      (subst (λ n. EachSlot (Fits (λ b. (goal.View-dyn g (b.vtable, b.value)).spec_of b.value) (λ b. (goal.View-dyn g (b.vtable, b.value)).kept b.value) (λ b. (goal.View-dyn g (b.vtable, b.value)).room b.value) n.core.network n.core.room) n.views.items) (sym c.self.view_is) c.requires.in_step)
+    (subst (λ n. EachSlot (Fits (λ b. (goal.View-dyn g (b.vtable, b.value)).spec_of b.value) (λ b. (goal.View-dyn g (b.vtable, b.value)).kept b.value) (λ b. (goal.View-dyn g (b.vtable, b.value)).room b.value) n.core.network n.core.room) n.views.items) (sym c.self.view_is) c.requires.in_step)
 
 pub invariant_of-self : goal.invariant_of-self
 invariant_of-self g c = (strashed-entered g.G.Gates.KIND g.G.Gates.form c.self.inside.0.0.hashed.store.network c.add_input.new.hashed.store.network _ c.add_input.result c.add_input.ensures.network c.add_input.ensures.refused c.self.invariant.0, c.add_input.ensures.room)

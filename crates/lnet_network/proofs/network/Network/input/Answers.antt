@@ -1,0 +1,61 @@
+use Rattle.std.proofs.Common.{◌≡◌, ◌≤◌, ℕ, false, IfOk, OnOk, Result, Ok, Err, sym, ap, subst, ◌∙◌}
+use Rattle.lnet_gates.specs.declared.signal.Signal.{Signal}
+use Rattle.lnet_gates.specs.declared.signal.Node.{Node}
+use Rattle.lnet_store.specs.declared.store.AddError.{AddError}
+use Rattle.lnet_model.specs.Networks.{live_count}
+use Rattle.lnet_store.specs.StoreValues.{with_input}
+use Rattle.lnet_hashed.specs.Strashed.{of_kind, least_free}
+use Rattle.lnet_hashed.specs.Views.{EachSlot, Fits}
+use Rattle.lnet_network.proofs.OfKind.{count-kind, input-kind, free-kind, strashed-entered, fits-kind, kind-fits}
+use Rattle.lnet_network.proofs.network.Network.input.Goals.{in-Ok, in-Err}
+use Rattle.lnet_network.proofs.network.Network.input.Goals as goal
+
+abbrev as-plain : ℕ → Signal
+as-plain n = record { node = record { 0 = n }; complement = false }
+
+error-signal : {a b : AddError} → ◌≡◌ {A = Result Signal AddError} (Err a) (Err b) → a ≡ b
+error-signal e = cc
+
+error-node : {a b : AddError} → ◌≡◌ {A = Result Node AddError} (Err a) (Err b) → a ≡ b
+error-node e = cc
+
+no-both : {A : Type 0} {s : Signal} {a : AddError} (r : Result Signal AddError) → r ≡ Ok s → r ≡ Err a → A
+no-both r p q = cc
+
+no-node : {A : Type 0} {n : Node} {a : AddError} (r : Result Node AddError) → r ≡ Ok n → r ≡ Err a → A
+no-node r p q = cc
+
+pub add_input-requires-clause-fit : goal.add_input-requires-clause-fit
+add_input-requires-clause-fit g c =
+    kind-fits (λ b. (goal.View-dyn g (b.vtable, b.value)).spec_of b.value) (λ b. (goal.View-dyn g (b.vtable, b.value)).kept b.value) (λ b. (goal.View-dyn g (b.vtable, b.value)).room b.value) g.G.Gates.KIND c.self.inside.0.0.hashed.store.network c.self.inside.0.0.hashed.room c.self.inside.0.1.0.items
+    (subst (λ n. EachSlot (Fits (λ b. (goal.View-dyn g (b.vtable, b.value)).spec_of b.value) (λ b. (goal.View-dyn g (b.vtable, b.value)).kept b.value) (λ b. (goal.View-dyn g (b.vtable, b.value)).room b.value) n.core.network n.core.room) n.views.items) (sym c.self.view_is) c.requires.in_step)
+
+pub invariant_of-self : goal.invariant_of-self
+invariant_of-self g c = (strashed-entered g.G.Gates.KIND g.G.Gates.form c.self.inside.0.0.hashed.store.network c.add_input.new.hashed.store.network _ c.add_input.result c.add_input.ensures.network c.add_input.ensures.refused c.self.invariant.0, c.add_input.ensures.room)
+
+pub returns-clause-signal : goal.returns-clause-signal
+returns-clause-signal g c = elim c.match-add_input.branch [
+  | in-Ok w ↦ subst (λ r. IfOk r (λ (s : Signal). s ≡ record { node = record { 0 = least_free c.args.self.now.core.network }; complement = false })) (sym w.result-is) (ap as-plain (w.in-Ok.ensures.node ∙ sym (free-kind g.G.Gates.KIND c.self.inside.0.0.hashed.store.network) ∙ ap (λ n. least_free n.core.network) c.self.view_is))
+  | in-Err w ↦ subst (λ r. IfOk r (λ (s : Signal). s ≡ record { node = record { 0 = least_free c.args.self.now.core.network }; complement = false })) (sym w.result-is) tt
+]
+
+pub returns-clause-network : goal.returns-clause-network
+returns-clause-network g c = elim c.match-add_input.branch [
+  | in-Ok w ↦ subst (λ r. OnOk r (of_kind g.G.Gates.KIND c.add_input.new.hashed.store.network ≡ with_input c.args.self.now.core.network (least_free c.args.self.now.core.network))) (sym w.result-is) (ap (of_kind g.G.Gates.KIND) w.in-Ok.ensures.network ∙ input-kind g.G.Gates.KIND c.self.inside.0.0.hashed.store.network w.in-Ok.node.0 ∙ ap (with_input (of_kind g.G.Gates.KIND c.self.inside.0.0.hashed.store.network)) (w.in-Ok.ensures.node ∙ sym (free-kind g.G.Gates.KIND c.self.inside.0.0.hashed.store.network)) ∙ ap (λ n. with_input n.core.network (least_free n.core.network)) c.self.view_is)
+  | in-Err w ↦ subst (λ r. OnOk r (of_kind g.G.Gates.KIND c.add_input.new.hashed.store.network ≡ with_input c.args.self.now.core.network (least_free c.args.self.now.core.network))) (sym w.result-is) tt
+]
+
+pub returns-clause-full : goal.returns-clause-full
+returns-clause-full g c = elim c.match-add_input.branch [
+  | in-Ok w ↦ (λ e. no-both c.match-add_input.result w.result-is e, λ l. no-node c.add_input.result w.in-Ok.is (c.add_input.ensures.full.1 ((sym (count-kind g.G.Gates.KIND c.self.inside.0.0.hashed.store.network) ∙ ap (λ n. live_count n.core.network) c.self.view_is) ∙ l)))
+  | in-Err w ↦ (λ e. sym (sym (count-kind g.G.Gates.KIND c.self.inside.0.0.hashed.store.network) ∙ ap (λ n. live_count n.core.network) c.self.view_is) ∙ c.add_input.ensures.full.0 (w.in-Err.is ∙ ap Err (error-signal (sym w.result-is ∙ e))), λ l. w.result-is ∙ ap Err (error-node (sym w.in-Err.is ∙ c.add_input.ensures.full.1 ((sym (count-kind g.G.Gates.KIND c.self.inside.0.0.hashed.store.network) ∙ ap (λ n. live_count n.core.network) c.self.view_is) ∙ l))))
+]
+
+pub returns-clause-memory : goal.returns-clause-memory
+returns-clause-memory g c e = elim c.match-add_input.branch [
+  | in-Ok w ↦ no-both c.match-add_input.result w.result-is e
+  | in-Err w ↦ subst (λ n. n.core.room ≤ live_count n.core.network) c.self.view_is (subst (λ x. c.self.inside.0.0.hashed.room ≤ x) (sym (count-kind g.G.Gates.KIND c.self.inside.0.0.hashed.store.network)) (c.add_input.ensures.memory (w.in-Err.is ∙ ap Err (error-signal (sym w.result-is ∙ e)))))
+]
+
+pub returns-clause-in_step : goal.returns-clause-in_step
+returns-clause-in_step g c = fits-kind (λ b. (goal.View-dyn g (b.vtable, b.value)).spec_of b.value) (λ b. (goal.View-dyn g (b.vtable, b.value)).kept b.value) (λ b. (goal.View-dyn g (b.vtable, b.value)).room b.value) g.G.Gates.KIND c.add_input.new.hashed.store.network c.add_input.new.hashed.room c.add_input.new.views.items c.add_input.ensures.fit

@@ -1,0 +1,159 @@
+//! Networks: a hashed store of gates of one kind, and views in slots.
+
+ghost use Rattle.std.specs.Prelude.{◌≡◌, ◌≤◌, ◌<◌, ◌-◌, [], ◌↔◌, IfOk, OnOk, OnErr, IsTrue, Err, length, false};
+ghost use Rattle.lnet_gates.specs.Natives.{FitsWord};
+ghost use Rattle.lnet_gates.specs.Plans.{Takes};
+ghost use Rattle.lnet_model.specs.Along.{nodes_read};
+ghost use Rattle.lnet_model.specs.Changes.{AreLive};
+ghost use Rattle.lnet_model.specs.Dags.{NUMBERS};
+ghost use Rattle.lnet_hashed.specs.Laid.{made};
+ghost use Rattle.lnet_hashed.specs.Views.{EachSlot, Fits, Kept, SlotsKept};
+ghost use Rattle.lnet_model.specs.Networks.{IsLive, live_count};
+ghost use Rattle.lnet_store.specs.StoreValues.{first_network, with_input};
+ghost use Rattle.lnet_hashed.specs.Strashed.{of_kind, least_free};
+ghost use Rattle.lnet_hashed.specs.Swept.{IsSwept};
+
+use lnet_gates::{Gates, Node, Op, Signal};
+use lnet_hashed::{Hashed, add_input, make, sweep};
+use lnet_store::{AddError, View};
+use std::alloc::{AllocError, Global};
+use std::marker::{Model, PhantomData};
+
+/// A hashed store whose gates are of one kind and in normal form, no two with one key.
+#[derive(Drop)]
+pub struct Core<G: Gates> {
+    hashed: Hashed,
+    kind: PhantomData<G>,
+}
+
+impl<G: Gates> Model for Core<G> {
+    ghost use Rattle.lnet_hashed.specs.Strashed.{IsStrashed, of_kind};
+    ghost use Rattle.lnet_hashed.specs.Rooms.{HasRoom};
+    ghost use Rattle.lnet_network.specs.Cores.{CoreValue, core_code};
+
+    ghost Value = { CoreValue };
+
+    ghost coded = { core_code };
+
+    ghost view = { λ c. record { network = of_kind G.KIND c.hashed.store.network; room = c.hashed.room } };
+
+    ghost invariant = { λ c. IsStrashed G.KIND G.form c.hashed.store.network × HasRoom c.hashed };
+}
+
+/// A table of a look-up table's gate is a word: said for the proofs of the calls that make gates.
+fn word_fits(op: &Op)
+    ensures { FitsWord op.now }
+{
+    match op {
+        Op::Lut(table) => {
+            let _word = *table;
+        }
+        _ => {}
+    }
+}
+
+/// A network of one kind, and views in slots.
+#[derive(Drop)]
+pub struct Network<G: Gates> {
+    core: Core<G>,
+    views: Vec<Option<Box<dyn View>>>,
+    visits: Vec<u64>,
+}
+
+impl<G: Gates> Network<G> {
+    /// The network of node 0 alone, without views.
+    pub fn new(alloc: Global) -> Result<Network<G>, AllocError>
+        ensures network { IfOk result (λ n. n.core.network ≡ of_kind G.KIND first_network) }
+        ensures views { IfOk result (λ n. n.views.items ≡ []) }
+    {
+        let hashed = Hashed::new(alloc)?;
+        Ok(Network {
+            core: Core {
+                hashed,
+                kind: PhantomData,
+            },
+            views: Vec::new(alloc),
+            visits: Vec::new(alloc),
+        })
+    }
+
+    /// For how many new nodes there is memory. Constant time.
+    pub fn spare(&self) -> u32
+        ensures { result ≡ self.now.core.room - live_count self.now.core.network }
+    {
+        self.core.hashed.room - self.core.hashed.store.live_count()
+    }
+
+    /// The signal of an operation on operands, as many as it takes: a gate that is there, or a new one, or by the plan of the
+    /// kind. `Full` where the gates that are missing are more than the free numbers; `NoMemory` never where `spare` covers them.
+    /// Refused, the network is as it was. Constant time and little more than a search for each key.
+    pub fn gate(&mut self, op: Op, operands: &[Signal]) -> Result<Signal, AddError>
+        requires arity { Takes op (length operands.now) }
+        requires live { AreLive self.old.core.network (nodes_read operands.now) }
+        requires in_step { EachSlot (Fits spec_of kept room self.old.core.network self.old.core.room) self.old.views.items }
+        ensures made { IfOk result (λ s. made G.KIND G.form self.old.core.network op operands.now ≡ record { network = self.new.core.network; signal = s }) }
+        ensures refused { OnErr result (self.new.core.network ≡ self.old.core.network) }
+        ensures grows { self.old.core.room ≤ self.new.core.room }
+        ensures full { result ≡ Err AddError.Full → NUMBERS < live_count (made G.KIND G.form self.old.core.network op operands.now).network }
+        ensures memory { result ≡ Err AddError.NoMemory → self.old.core.room < live_count (made G.KIND G.form self.old.core.network op operands.now).network }
+        ensures in_step { EachSlot (Fits spec_of kept room self.new.core.network self.new.core.room) self.new.views.items }
+        ensures kept { SlotsKept (Kept kind_of spec_of room) self.old.views.items self.new.views.items }
+    {
+        word_fits(&op);
+        make::<G>(
+            &mut self.core.hashed,
+            &mut self.views,
+            &mut self.visits,
+            op,
+            operands,
+        )
+    }
+
+    /// A new input, under the least number that isn't live. `Full` exactly where every number is live; `NoMemory` never where
+    /// `spare` is above 0. Refused, the network is as it was. Constant time, amortized, while nodes are added only.
+    pub fn input(&mut self) -> Result<Signal, AddError>
+        requires in_step { EachSlot (Fits spec_of kept room self.old.core.network self.old.core.room) self.old.views.items }
+        ensures signal { IfOk result (λ s. s ≡ record { node = record { 0 = least_free self.old.core.network }; complement = false }) }
+        ensures network { OnOk result (self.new.core.network ≡ with_input self.old.core.network (least_free self.old.core.network)) }
+        ensures refused { OnErr result (self.new.core.network ≡ self.old.core.network) }
+        ensures grows { self.old.core.room ≤ self.new.core.room }
+        ensures full { (result ≡ Err AddError.Full) ↔ (live_count self.old.core.network ≡ NUMBERS) }
+        ensures memory { result ≡ Err AddError.NoMemory → self.old.core.room ≤ live_count self.old.core.network }
+        ensures in_step { EachSlot (Fits spec_of kept room self.new.core.network self.new.core.room) self.new.views.items }
+        ensures kept { SlotsKept (Kept kind_of spec_of room) self.old.views.items self.new.views.items }
+    {
+        match add_input(&mut self.core.hashed, &mut self.views, &mut self.visits) {
+            Ok(node) => Ok(Signal {
+                node,
+                complement: false,
+            }),
+            Err(error) => Err(error),
+        }
+    }
+
+    /// Removes each gate that no output reaches. It takes no memory, and can't be refused. Linear in the numbers where gates
+    /// stand above their fanins.
+    pub fn sweep(&mut self)
+        requires in_step { EachSlot (Fits spec_of kept room self.old.core.network self.old.core.room) self.old.views.items }
+        ensures network { IsSwept self.old.core.network self.new.core.network }
+        ensures room { self.new.core.room ≡ self.old.core.room }
+        ensures in_step { EachSlot (Fits spec_of kept room self.new.core.network self.new.core.room) self.new.views.items }
+        ensures kept { SlotsKept (Kept kind_of spec_of room) self.old.views.items self.new.views.items }
+    {
+        sweep(&mut self.core.hashed, &mut self.views, &mut self.visits);
+    }
+
+    /// How many numbers are live: the constant, the inputs and the gates. Constant time.
+    pub fn live_count(&self) -> u32
+        ensures { result ≡ live_count self.now.core.network }
+    {
+        self.core.hashed.store.live_count()
+    }
+
+    /// Whether the number is live. Constant time.
+    pub fn is_live(&self, n: Node) -> bool
+        ensures { IsTrue result ↔ IsLive self.now.core.network n.0 }
+    {
+        self.core.hashed.store.is_live(n)
+    }
+}

@@ -86,7 +86,8 @@ impl<G: Gates> Network<G> {
 
     /// The signal of an operation on operands, as many as it takes: a gate that is there, or a new one, or by the plan of the
     /// kind. `Full` where the gates that are missing are more than the free numbers; `NoMemory` never where `spare` covers them.
-    /// Refused, the network is as it was. Constant time and little more than a search for each key.
+    /// Refused, the network is as it was. A search for the gate of each key looks at each number: linear in the numbers for
+    /// each gate of the plan.
     pub fn gate(&mut self, op: Op, operands: &[Signal]) -> Result<Signal, AddError>
         requires arity { Takes op (length operands.now) }
         requires live { AreLive self.old.core.network (nodes_read operands.now) }

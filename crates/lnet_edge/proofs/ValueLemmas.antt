@@ -91,7 +91,7 @@ own_driver c once e (k, low, is) =
     input_place-none 0 e.target c.inputs (λ i under same. no_input c once i k under low (same ∙ sym (target_of c.equations k e low is)))
 
 -- what is found drives the wire
-found_reads : (w : ℕ) (es : List EquationValue) (e : EquationValue) → equation_at w es ≡ Some e → Contains es e × (e.target ≡ w)
+pub found_reads : (w : ℕ) (es : List EquationValue) (e : EquationValue) → equation_at w es ≡ Some e → Contains es e × (e.target ≡ w)
 found_reads w [] e found = absurd cc
 found_reads w (f ∷ es) e found = elim (eqb_tells f.target w) as (λ _. Contains (f ∷ es) e × (e.target ≡ w)) [
   | inl p ↦
@@ -109,7 +109,7 @@ found_reads w (f ∷ es) e found = elim (eqb_tells f.target w) as (λ _. Contain
 abbrev pub IsShort : List EquationValue → ℕ → ℕ → Type 0
 IsShort es d w = (vs : List ℕ) → IsWalk es w vs → length vs < d
 
-short_operand : (es : List EquationValue) (d w v : ℕ) → IsShort es (suc d) w → Reads es w v → IsShort es d v
+pub short_operand : (es : List EquationValue) (d w v : ℕ) → IsShort es (suc d) w → Reads es w v → IsShort es d v
 short_operand es d w v short reads vs walk = let h = short (v ∷ vs) (reads, walk) in omega arith
 
 same_bits : (V W : ℕ → Bool) (rs : List WireRef) → ((v : ℕ) → Contains (map (λ (r : WireRef). r.wire.0) rs) v → V v ≡ W v) → map (λ (r : WireRef). complemented r.complement (V r.wire.0)) rs ≡ map (λ (r : WireRef). complemented r.complement (W r.wire.0)) rs
@@ -177,7 +177,7 @@ leaving_targets es w (v ∷ vs) walk q e = elim (eqb_tells q w) as (λ _. list_a
   | inr p ↦ leaving_targets es v vs walk.1 q (sym (ap (λ b. b || list_any (nat_eq q) (leaving v vs)) p.0) ∙ e)
 ]
 
-short_walks : (c : CircuitValue) → ¬ (IsCyclic c) → (w : ℕ) → IsShort c.equations (suc (length c.equations)) w
+pub short_walks : (c : CircuitValue) → ¬ (IsCyclic c) → (w : ℕ) → IsShort c.equations (suc (length c.equations)) w
 short_walks c acyclic w vs walk =
     let free : (x : ℕ) → ¬ (ComesBack c.equations x) = λ x back. acyclic (x, back) in
     let few = length-le_from_is_member nat_eq_equiv (leaving w vs) (targets c.equations) (distinct_leaving c.equations free w vs walk) (leaving_targets c.equations w vs walk) in
@@ -187,7 +187,7 @@ short_walks c acyclic w vs walk =
 
 -- ---- the laws
 
-value_once : (c : CircuitValue) (a : ℕ → Bool) (w : ℕ) → IsCircuit c → value_of c a w ≡ input_or (input_place 0 w c.inputs) a (driven (ref_value c a) (equation_at w c.equations))
+pub value_once : (c : CircuitValue) (a : ℕ → Bool) (w : ℕ) → IsCircuit c → value_of c a w ≡ input_or (input_place 0 w c.inputs) a (driven (ref_value c a) (equation_at w c.equations))
 unfolding wire_value
 value_once c a w is = sym (deeper c a (suc (length c.equations)) w (short_walks c is.acyclic w))
 
@@ -231,7 +231,7 @@ value-input c a k is low =
     (input_place-some 0 w k c.inputs low refl (λ j under same. let q = single (driven_wires c) (suc j) (suc k) is.once (omega arith) (omega arith) (input_stands c j (omega arith) ∙ same ∙ sym (input_stands c k low)) in omega arith))
     ∙ ap a e
 
-equation_at-none : (w : ℕ) (es : List EquationValue) → ((k : ℕ) → k < length es → get_or (targets es) k 0 ≢ w) → equation_at w es ≡ None
+pub equation_at-none : (w : ℕ) (es : List EquationValue) → ((k : ℕ) → k < length es → get_or (targets es) k 0 ≢ w) → equation_at w es ≡ None
 equation_at-none w [] apart = refl
 equation_at-none w (e ∷ es) apart =
     ap (λ b. if b then Some e else equation_at w es) (ne_eqb e.target w (apart 0 (omega arith)))

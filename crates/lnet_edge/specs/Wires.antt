@@ -97,10 +97,10 @@ pub record IsCircuit (c : CircuitValue) : Type 0 where
 
 -- the first rule that is broken, in this order: each wire that is used is driven, each is driven once, none depends on itself
 abbrev pub IsBroken : CircuitValue → Fault → Type 0
-IsBroken c fault.Unbuilt = ⊥
 IsBroken c fault.Undriven = IsUndriven c
 IsBroken c fault.Twice = (¬ (IsUndriven c)) × IsTwice c
 IsBroken c fault.Cycle = (¬ (IsUndriven c)) × (¬ (IsTwice c)) × IsCyclic c
+IsBroken c _ = ⊥
 
 -- lists are refused for the first rule that they break, and at any time for want of memory
 abbrev pub IsRefused : CircuitValue → CircuitError → Type 0

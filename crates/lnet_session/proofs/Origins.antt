@@ -9,11 +9,11 @@ use Rattle.std.specs.FinMap.{get, insert, get-insert}
 use Rattle.lnet_edge.specs.Outside.{Contents}
 use Rattle.lnet_edge.specs.Circuits.{CircuitValue, IsInOrder}
 use Rattle.lnet_model.specs.Networks.{NetworkValue}
-use Rattle.lnet_aiger.specs.Spelling.{text_of}
-use Rattle.lnet_aiger.specs.Meanings.{MeansSame}
-use Rattle.lnet_aiger.proofs.Same.{means_same}
-use Rattle.lnet_netio.specs.Built.{built}
-use Rattle.lnet_netio.proofs.Computes.{built-Acyclic, outputs-built, exported-built}
+use Rattle.lnet_ascending.specs.Spelling.{text_of}
+use Rattle.lnet_ascending.specs.Meanings.{MeansSame}
+use Rattle.lnet_ascending.proofs.Same.{means_same}
+use Rattle.lnet_listedio.specs.Built.{built}
+use Rattle.lnet_listedio.proofs.Computes.{built-Acyclic, outputs-built, exported-built}
 use Rattle.lnet_session.specs.declared.command.Command.{Command}
 use Rattle.lnet_session.specs.declared.command.Command.TheVariants.{Read, Write}
 use Rattle.lnet_session.specs.declared.command.WriteFormat.{WriteFormat}

@@ -5,8 +5,8 @@ use Rattle.lnet_model.specs.Networks.{NetworkValue, gate_count}
 use Rattle.lnet_edge.specs.Outside.{Contents, file_limit}
 use Rattle.lnet_edge.specs.Circuits.{CircuitValue}
 use Rattle.lnet_edge.specs.declared.fault.Fault.TheVariants.{Unbuilt}
-use Rattle.lnet_aiger.specs.Spelling.{Means, text_of}
-use Rattle.lnet_netio.specs.Built.{built, exported}
+use Rattle.lnet_ascending.specs.Spelling.{Means, text_of}
+use Rattle.lnet_listedio.specs.Built.{built, exported}
 use Rattle.lnet_session.specs.declared.command.Command.{Command}
 use Rattle.lnet_session.specs.declared.command.Command.TheVariants.{Read, Write}
 use Rattle.lnet_session.specs.declared.reply.Unmet.TheVariants as unmet

@@ -56,6 +56,17 @@ fn malformed_text(alloc: Global, index: u32, line: u32, kind: Fault) -> Result<S
 {
     match kind {
         Fault::Unbuilt => format!(in alloc; "unmet {index} Malformed {line} Unbuilt\n"),
+        Fault::Header => format!(in alloc; "unmet {index} Malformed {line} Header\n"),
+        Fault::TooMany => format!(in alloc; "unmet {index} Malformed {line} TooMany\n"),
+        Fault::Property => format!(in alloc; "unmet {index} Malformed {line} Property\n"),
+        Fault::Sequential => format!(in alloc; "unmet {index} Malformed {line} Sequential\n"),
+        Fault::Missing => format!(in alloc; "unmet {index} Malformed {line} Missing\n"),
+        Fault::Syntax => format!(in alloc; "unmet {index} Malformed {line} Syntax\n"),
+        Fault::Literal => format!(in alloc; "unmet {index} Malformed {line} Literal\n"),
+        Fault::Delta => format!(in alloc; "unmet {index} Malformed {line} Delta\n"),
+        Fault::Symbol => format!(in alloc; "unmet {index} Malformed {line} Symbol\n"),
+        Fault::Cover => format!(in alloc; "unmet {index} Malformed {line} Cover\n"),
+        Fault::Unsupported => format!(in alloc; "unmet {index} Malformed {line} Unsupported\n"),
         Fault::Undriven => format!(in alloc; "unmet {index} Malformed {line} Undriven\n"),
         Fault::Twice => format!(in alloc; "unmet {index} Malformed {line} Twice\n"),
         Fault::Cycle => format!(in alloc; "unmet {index} Malformed {line} Cycle\n"),

@@ -9,10 +9,10 @@ ghost use Rattle.lnet_session.specs.Steps.{Steps, World, KeepsOutputs, MakesCall
 
 use crate::command::Command;
 use crate::reply::{Reply, Unmet, text_of_reply};
-use lnet_aiger::{ReadError, read, write_ascii};
+use lnet_ascending::{ReadError, read, write_ascii};
 use lnet_edge::{FetchError, Files, Name, PutError, Sink};
 use lnet_listed::Network;
-use lnet_netio::{build, export};
+use lnet_listedio::{build, export};
 use std::alloc::Global;
 
 /// How a command ended.

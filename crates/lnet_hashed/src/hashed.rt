@@ -14,6 +14,7 @@ ghost use Rattle.lnet_hashed.specs.Strashed.{same_op, same_signals, same_key, ke
 ghost use Rattle.lnet_hashed.specs.Views.{EachSlot, Fits, Kept, SlotKept, SlotsKept};
 ghost use Rattle.lnet_hashed.specs.Rooms.{HasRoom};
 
+use crate::marks::Marks;
 use crate::telling::{reserve_all, tell};
 use lnet_gates::{Gate, Key, Node, Op, Signal};
 use lnet_store::{AddError, Event, Store, View};
@@ -22,12 +23,14 @@ use std::alloc::{AllocError, Global};
 /// How many numbers a network can have.
 pub(crate) const LIMIT: u32 = 1048576;
 
-/// A store, and for how many numbers, from 0, the store and each of its views have memory.
+/// A store, the marks of its numbers, and for how many numbers, from 0, the store, the marks and each of the views have memory.
 ///
-/// Each call here keeps `HasRoom`: the network's numbers are below the room, and the store has memory for so many.
+/// Each call here keeps `HasRoom`: the network's numbers are below the room, the store has memory for so many, and there are
+/// marks for each.
 #[derive(Drop)]
 pub struct Hashed {
     pub store: Store,
+    pub marks: Marks,
     pub room: u32,
 }
 
@@ -39,7 +42,13 @@ impl Hashed {
     {
         let store = Store::new(alloc)?;
         let _live = store.live_count();
-        Ok(Hashed { store, room: 1 })
+        let mut marks = Marks::new(alloc);
+        marks.reserve(1)?;
+        Ok(Hashed {
+            store,
+            marks,
+            room: 1,
+        })
     }
 }
 
@@ -75,7 +84,7 @@ fn has_key(gate: &Gate, key: &Key) -> bool
 }
 
 /// The signal of the gate at a number, where it has the key.
-fn held(store: &Store, n: u32, key: &Key) -> Option<Signal>
+pub fn held(store: &Store, n: u32, key: &Key) -> Option<Signal>
     ensures { MatchOption result ((g : GateValue) → gate_at store.now.network n ≡ Some g → same_key key.now (key_of g) ≡ false) (λ s. HoldsKey store.now.network key.now n s) }
 {
     match store.gate_of(Node(n)) {
@@ -104,7 +113,7 @@ pub fn find(store: &Store, key: &Key) -> Option<Signal>
     None
 }
 
-/// Gets memory for `numbers` numbers in the store and in each view.
+/// Gets memory for `numbers` numbers in the store, in the marks and in each view.
 pub fn reserve(
     hashed: &mut Hashed,
     views: &mut Vec<Option<Box<dyn View>>>,
@@ -124,6 +133,7 @@ pub fn reserve(
 {
     let live = hashed.store.live_count();
     hashed.store.reserve(numbers.saturating_sub(live))?;
+    hashed.marks.reserve(numbers)?;
     reserve_all(views, &hashed.store, hashed.room, numbers)?;
     hashed.room = numbers;
     Ok(())

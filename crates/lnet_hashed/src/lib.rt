@@ -22,6 +22,7 @@ mod hashed;
 mod laying;
 mod levels;
 mod making;
+mod marks;
 mod placing;
 mod subscribing;
 mod sweeping;
@@ -29,10 +30,11 @@ mod telling;
 #[cfg(test)]
 mod tests;
 
-pub use hashed::{Hashed, add_input, find, remove, reserve};
+pub use hashed::{Hashed, add_input, find, held, remove, reserve};
 pub use laying::lay;
 pub use levels::depth;
 pub use making::make;
+pub use marks::Marks;
 pub use placing::place;
 pub use subscribing::{subscribe, unsubscribe, view, visits_of};
 pub use sweeping::sweep;

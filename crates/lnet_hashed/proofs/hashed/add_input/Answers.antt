@@ -37,4 +37,5 @@ returns-in-Ok-clause-room g c =
       below = input-below c.make_room.new.hashed.store.network c.add_input.new.self.network c.in-Ok.n.0 c.make_room.new.hashed.room c.in-Ok.ensures.network c.in-Ok.ensures.number c.in_ok-make_room.ensures.one_more c.make_room.ensures.room.below;
       stored = omega arith;
       limit = c.make_room.ensures.room.limit;
+      marked = c.make_room.ensures.room.marked;
     }

@@ -21,4 +21,5 @@ returns-clause-room g c =
       below = subst (λ N. AreBelow N c.args.hashed.now.room) (sym c.remove-gate.ensures.network) (λ m live. c.requires.room.below m (left-live c.args.hashed.now.store.network c.args.n.0 m live));
       stored = omega arith;
       limit = c.requires.room.limit;
+      marked = c.requires.room.marked;
     }

@@ -10,4 +10,5 @@ returns-clause-room c =
       below = subst (λ N. AreBelow N 1) (sym c.in_ok-store.ensures.network) first-low;
       stored = omega arith;
       limit = omega arith;
+      marked = c.in_ok-reserve.ensures.long 0 c.new-marks.ensures;
     }

@@ -1,0 +1,11 @@
+pub mod ReadSignals
+pub mod RedirectedGates
+pub mod Outputs
+pub mod RedirectedAll
+pub mod SameViews
+pub mod Holders
+pub mod Marking
+pub mod DirtySteps
+pub mod Named
+pub mod Whole
+pub mod TestLemmas

@@ -1,0 +1,19 @@
+use Rattle.std.proofs.Common.{◌≡◌, length}
+use Rattle.lnet_hashed.specs.Views.{EachSlot, Fits, Kept, SlotsKept}
+use Rattle.lnet_cascade.specs.Marks.{OnlyGates}
+use Rattle.lnet_cascade.specs.Cascading.{GoesOn, left}
+use Rattle.lnet_cascade.specs.Rooms.{StoreHasRoom}
+use Rattle.lnet_cascade.proofs.cascading.cascade.Given as goal
+
+abbrev pub invariant-gates : goal.invariant-gates
+invariant-gates g l = record {
+  goes_on : GoesOn g.G.Gates.KIND g.G.Gates.form l.fn.store.network l.fn.dirty.items l.store.network l.dirty.items;
+  gates : OnlyGates l.store.network l.dirty.items;
+  room : StoreHasRoom l.store l.numbers;
+  long : length l.dirty.items ≡ length l.fn.dirty.items;
+  fit : EachSlot (Fits (λ b. (goal.View-dyn g (b.vtable, b.value)).spec_of b.value) (λ b. (goal.View-dyn g (b.vtable, b.value)).kept b.value) (λ b. (goal.View-dyn g (b.vtable, b.value)).room b.value) l.store.network l.numbers) l.views.items;
+  kept : SlotsKept (Kept (λ b. (goal.View-dyn g (b.vtable, b.value)).kind_of b.value) (λ b. (goal.View-dyn g (b.vtable, b.value)).spec_of b.value) (λ b. (goal.View-dyn g (b.vtable, b.value)).room b.value)) l.fn.views.items l.views.items;
+}
+
+abbrev pub decreases-gates : goal.decreases-gates
+decreases-gates g l = left l.store.network l.dirty.items

@@ -1,0 +1,55 @@
+use Rattle.std.proofs.Common.{◌≡◌, sym, ap, subst, ◌∙◌, arith}
+use Rattle.lnet_model.specs.Networks.{live_count}
+use Rattle.lnet_model.specs.Changes.{IsGateAt, without}
+use Rattle.lnet_model.specs.Fanouts.{references}
+use Rattle.lnet_model.specs.Dags.{numbers_of, AreBelow}
+use Rattle.lnet_hashed.specs.Views.{Fits, EachSlot}
+use Rattle.lnet_hashed.proofs.KeptViews.{kept-twice}
+use Rattle.lnet_cascade.proofs.RedirectedAll.{all-gate, all-free, all-replaced, outputs-count}
+use Rattle.lnet_cascade.proofs.SameViews.{fits-outputs, below-outputs}
+use Rattle.lnet_cascade.proofs.redirecting.replace.Goals as goal
+
+pub remove-requires-clause-gate : goal.remove-requires-clause-gate
+remove-requires-clause-gate g c =
+    let C = c.args.store.now.network in
+    subst (λ N. IsGateAt N c.args.redirection.from.0) (sym c.redirect_outputs.ensures.network)
+    (all-gate C c.redirect_gates.new.store.network c.args.redirection.from.0 c.args.redirection.to (numbers_of C) c.numbers-first.ensures.within c.redirect_gates.ensures.redirected c.requires.free c.requires.live c.requires.gate)
+
+pub remove-requires-clause-free : goal.remove-requires-clause-free
+remove-requires-clause-free g c =
+    let C = c.args.store.now.network in
+    ap (λ N. references N c.args.redirection.from.0) c.redirect_outputs.ensures.network
+    ∙ all-free C c.redirect_gates.new.store.network c.args.redirection.from.0 c.args.redirection.to (numbers_of C) c.numbers-first.ensures.within c.redirect_gates.ensures.redirected c.requires.free c.requires.live c.requires.gate
+
+pub remove-requires-clause-room : goal.remove-requires-clause-room
+remove-requires-clause-room g c =
+    let D = c.redirect_gates.new.store.network in
+    let is = c.redirect_outputs.ensures.network in
+    let count = ap live_count is ∙ outputs-count D c.args.redirection.from.0 c.args.redirection.to in
+    let spare = c.redirect_outputs.ensures.spare in
+    let stored = c.redirect_gates.ensures.room.stored in
+    record {
+      below = subst (λ N. AreBelow N c.args.numbers) (sym is) (below-outputs D c.args.redirection.from.0 c.args.redirection.to c.args.numbers c.redirect_gates.ensures.room.below);
+      stored = omega arith;
+      limit = c.redirect_gates.ensures.room.limit;
+    }
+
+pub remove-requires-clause-fit : goal.remove-requires-clause-fit
+remove-requires-clause-fit g c =
+    subst (λ N. EachSlot (Fits (λ b. (goal.View-dyn g (b.vtable, b.value)).spec_of b.value) (λ b. (goal.View-dyn g (b.vtable, b.value)).kept b.value) (λ b. (goal.View-dyn g (b.vtable, b.value)).room b.value) N c.args.numbers) c.redirect_gates.new.views.items) (sym c.redirect_outputs.ensures.network)
+    (fits-outputs (λ b. (goal.View-dyn g (b.vtable, b.value)).spec_of b.value) (λ b. (goal.View-dyn g (b.vtable, b.value)).kept b.value) (λ b. (goal.View-dyn g (b.vtable, b.value)).room b.value) c.redirect_gates.new.store.network c.args.redirection.from.0 c.args.redirection.to c.args.numbers c.redirect_gates.new.views.items c.redirect_gates.ensures.fit)
+
+pub returns-clause-network : goal.returns-clause-network
+returns-clause-network g c =
+    let C = c.args.store.now.network in
+    c.remove.ensures.network ∙ ap (λ N. without N c.args.redirection.from.0) c.redirect_outputs.ensures.network
+    ∙ all-replaced C c.redirect_gates.new.store.network c.args.redirection.from.0 c.args.redirection.to (numbers_of C) c.numbers-first.ensures.within c.redirect_gates.ensures.redirected c.requires.free c.requires.live c.requires.gate
+
+pub returns-clause-count : goal.returns-clause-count
+returns-clause-count g c =
+    let rest = c.remove.ensures.count in
+    let same : live_count c.redirect_outputs.new.store.network ≡ live_count c.args.store.now.network = ap live_count c.redirect_outputs.ensures.network ∙ outputs-count c.redirect_gates.new.store.network c.args.redirection.from.0 c.args.redirection.to ∙ c.redirect_gates.ensures.redirected.count in
+    rest ∙ same
+
+pub returns-clause-kept : goal.returns-clause-kept
+returns-clause-kept g c = kept-twice c.redirect_gates.ensures.kept c.remove.ensures.kept

@@ -1,0 +1,5 @@
+pub mod Marks
+pub mod Redirections
+pub mod Rooms
+pub mod Cascading
+pub mod Losing

@@ -1,0 +1,11 @@
+//! Substitution of gates, with the merges that follow, and views that are told each single change.
+#![tactic(auto)]
+
+mod cascading;
+mod losing;
+mod redirecting;
+mod substituting;
+#[cfg(test)]
+mod tests;
+
+pub use substituting::substitute;

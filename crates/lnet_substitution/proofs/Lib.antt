@@ -1,0 +1,15 @@
+pub mod Jumps
+pub mod Replaced
+pub mod Resolving
+pub mod OneReplaced
+pub mod OneSet
+pub mod Merging
+pub mod Settling
+pub mod Dropping
+pub mod Values
+pub mod Substituted
+pub mod Images
+pub mod Levels
+pub mod OtherKinds
+pub mod Fewer
+pub mod Onto

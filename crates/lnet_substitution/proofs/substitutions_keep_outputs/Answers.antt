@@ -1,0 +1,8 @@
+use Rattle.lnet_substitution.proofs.Substituted.{substituted-outputs, substituted-same}
+use Rattle.lnet_substitution.proofs.substitutions_keep_outputs.Goals as goal
+
+pub returns-clause-replaced : goal.returns-clause-replaced
+returns-clause-replaced c kind form N o s Q laws can h a = substituted-outputs kind form laws N o s can Q h a
+
+pub returns-clause-equal : goal.returns-clause-equal
+returns-clause-equal c kind form N o s Q laws can h a same = substituted-same kind form laws N o s can Q h a same

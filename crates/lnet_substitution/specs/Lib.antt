@@ -1,0 +1,4 @@
+pub mod Replaced
+pub mod Representatives
+pub mod Substitutions
+pub mod Cascades

@@ -1,2 +1,4 @@
 pub mod OfKind
 pub mod FirstNetwork
+pub mod SeenAs
+pub mod OtherOutputs

@@ -2,7 +2,12 @@
 #![tactic(auto)]
 
 mod network;
+mod operations;
+mod outputs;
+mod reading;
 #[cfg(test)]
 mod tests;
+mod viewing;
 
 pub use network::Network;
+pub use viewing::ViewId;

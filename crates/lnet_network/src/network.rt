@@ -1,6 +1,6 @@
 //! Networks: a hashed store of gates of one kind, and views in slots.
 
-ghost use Rattle.std.specs.Prelude.{◌≡◌, ◌≤◌, ◌<◌, ◌-◌, [], ◌↔◌, IfOk, OnOk, OnErr, IsTrue, Err, length, false};
+ghost use Rattle.std.specs.Prelude.{◌≡◌, ◌≤◌, ◌<◌, ◌-◌, [], ◌↔◌, IfOk, OnOk, OnErr, Err, length, min, false};
 ghost use Rattle.lnet_gates.specs.Natives.{FitsWord};
 ghost use Rattle.lnet_gates.specs.Plans.{Takes};
 ghost use Rattle.lnet_model.specs.Along.{nodes_read};
@@ -14,15 +14,18 @@ ghost use Rattle.lnet_hashed.specs.Strashed.{of_kind, least_free};
 ghost use Rattle.lnet_hashed.specs.Swept.{IsSwept};
 
 use lnet_gates::{Gates, Node, Op, Signal};
-use lnet_hashed::{Hashed, add_input, make, sweep};
+use lnet_hashed::{Hashed, add_input, make, reserve, sweep};
 use lnet_store::{AddError, View};
 use std::alloc::{AllocError, Global};
 use std::marker::{Model, PhantomData};
 
+/// How many numbers a network can have.
+const LIMIT: u32 = 1048576;
+
 /// A hashed store whose gates are of one kind and in normal form, no two with one key.
 #[derive(Drop)]
 pub struct Core<G: Gates> {
-    hashed: Hashed,
+    pub(crate) hashed: Hashed,
     kind: PhantomData<G>,
 }
 
@@ -55,9 +58,9 @@ fn word_fits(op: &Op)
 /// A network of one kind, and views in slots.
 #[derive(Drop)]
 pub struct Network<G: Gates> {
-    core: Core<G>,
-    views: Vec<Option<Box<dyn View>>>,
-    visits: Vec<u64>,
+    pub(crate) core: Core<G>,
+    pub(crate) views: Vec<Option<Box<dyn View>>>,
+    pub(crate) visits: Vec<u64>,
 }
 
 impl<G: Gates> Network<G> {
@@ -82,6 +85,24 @@ impl<G: Gates> Network<G> {
         ensures { result ≡ self.now.core.room - live_count self.now.core.network }
     {
         self.core.hashed.room - self.core.hashed.store.live_count()
+    }
+
+    /// Gets memory for so many new nodes in the network and in each view, or for as many as there are free numbers. Refused for
+    /// want of it, the network is as it was. Linear in the numbers, and constant time where there is enough.
+    pub fn reserve(&mut self, numbers: u32) -> Result<(), AllocError>
+        requires in_step { EachSlot (Fits spec_of kept room self.old.core.network self.old.core.room) self.old.views.items }
+        ensures network { self.new.core.network ≡ self.old.core.network }
+        ensures spare { OnOk result (min numbers (NUMBERS - live_count self.old.core.network) ≤ self.new.core.room - live_count self.new.core.network) }
+        ensures grows { self.old.core.room ≤ self.new.core.room }
+        ensures in_step { EachSlot (Fits spec_of kept room self.new.core.network self.new.core.room) self.new.views.items }
+        ensures kept { SlotsKept (Kept kind_of spec_of room) self.old.views.items self.new.views.items }
+    {
+        let live = self.core.hashed.store.live_count();
+        let wanted = live + numbers.min(LIMIT - live);
+        if wanted <= self.core.hashed.room {
+            return Ok(());
+        }
+        reserve(&mut self.core.hashed, &mut self.views, wanted)
     }
 
     /// The signal of an operation on operands, as many as it takes: a gate that is there, or a new one, or by the plan of the
@@ -142,19 +163,5 @@ impl<G: Gates> Network<G> {
         ensures kept { SlotsKept (Kept kind_of spec_of room) self.old.views.items self.new.views.items }
     {
         sweep(&mut self.core.hashed, &mut self.views, &mut self.visits);
-    }
-
-    /// How many numbers are live: the constant, the inputs and the gates. Constant time.
-    pub fn live_count(&self) -> u32
-        ensures { result ≡ live_count self.now.core.network }
-    {
-        self.core.hashed.store.live_count()
-    }
-
-    /// Whether the number is live. Constant time.
-    pub fn is_live(&self, n: Node) -> bool
-        ensures { IsTrue result ↔ IsLive self.now.core.network n.0 }
-    {
-        self.core.hashed.store.is_live(n)
     }
 }

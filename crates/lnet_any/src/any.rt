@@ -1,0 +1,166 @@
+//! A network of any of the four kinds. Each call is that of the network's own kind.
+
+ghost use Rattle.std.specs.Prelude.{◌≡◌, ◌≤◌, ◌<◌, ◌↔◌, ℕ, None, Some, IfOk, IfErr, IfSome, IsSome, IsSomeAnd, IsTrue, OnErr, length, option_map, slice_index_or, string_bytes};
+ghost use Rattle.lnet_model.specs.Answers.{IsSpec, kind_for};
+ghost use Rattle.lnet_model.specs.Networks.{IsLive, gate_count as gates_in};
+ghost use Rattle.lnet_model.specs.Dags.{IsStored};
+ghost use Rattle.lnet_model.specs.Levels.{depth as depth_of};
+ghost use Rattle.lnet_network.specs.Kept.{level_kept};
+ghost use Rattle.lnet_hashed.specs.Views.{EachSlot, Fits, StandsAs, IsLeastEmpty, OthersSame};
+ghost use Rattle.lnet_print.specs.Printed.{print_text};
+ghost use Rattle.lnet_any.specs.AnyNets.{core_in, network_in, views_in};
+
+use lnet_gates::{AigGates, Kind, KlutGates, MigGates, Node, XagGates};
+use lnet_network::{Network, ViewId};
+use lnet_print::{gate_count, print};
+use lnet_store::{View, ViewSpec};
+use std::alloc::{AllocError, Global};
+
+/// A network of one of the four kinds.
+#[derive(Drop)]
+pub enum AnyNet {
+    /// An and-inverter graph.
+    Aig(Network<AigGates>),
+    /// A graph of ands and exclusive ors.
+    Xag(Network<XagGates>),
+    /// A majority-inverter graph.
+    Mig(Network<MigGates>),
+    /// A network of look-up tables.
+    Klut(Network<KlutGates>),
+}
+
+impl AnyNet {
+    /// How many inputs there are. Constant time.
+    pub fn input_count(&self) -> u32
+        ensures { result ≡ length (network_in self.now).inputs }
+    {
+        match self {
+            AnyNet::Aig(net) => net.input_count(),
+            AnyNet::Xag(net) => net.input_count(),
+            AnyNet::Mig(net) => net.input_count(),
+            AnyNet::Klut(net) => net.input_count(),
+        }
+    }
+
+    /// How many outputs there are. Constant time.
+    pub fn output_count(&self) -> u32
+        ensures { result ≡ length (network_in self.now).outputs }
+    {
+        match self {
+            AnyNet::Aig(net) => net.output_count(),
+            AnyNet::Xag(net) => net.output_count(),
+            AnyNet::Mig(net) => net.output_count(),
+            AnyNet::Klut(net) => net.output_count(),
+        }
+    }
+
+    /// How many gates there are. Linear in the numbers.
+    pub fn gate_count(&self) -> u32
+        ensures { result ≡ gates_in (network_in self.now) }
+    {
+        match self {
+            AnyNet::Aig(net) => gate_count(net),
+            AnyNet::Xag(net) => gate_count(net),
+            AnyNet::Mig(net) => gate_count(net),
+            AnyNet::Klut(net) => gate_count(net),
+        }
+    }
+
+    /// Whether the number is live. Constant time.
+    pub fn is_live(&self, n: Node) -> bool
+        ensures { IsTrue result ↔ IsLive (network_in self.now) n.0 }
+    {
+        match self {
+            AnyNet::Aig(net) => net.is_live(n),
+            AnyNet::Xag(net) => net.is_live(n),
+            AnyNet::Mig(net) => net.is_live(n),
+            AnyNet::Klut(net) => net.is_live(n),
+        }
+    }
+
+    /// The network's depth: the greatest level of an output's node, 0 without outputs. It takes memory for the levels, and is
+    /// refused only where there is none. Linear in the network.
+    pub fn depth(&self) -> Result<u32, AllocError>
+        ensures { IfOk result (λ d. d ≡ depth_of (network_in self.now)) }
+    {
+        match self {
+            AnyNet::Aig(net) => net.depth(),
+            AnyNet::Xag(net) => net.depth(),
+            AnyNet::Mig(net) => net.depth(),
+            AnyNet::Klut(net) => net.depth(),
+        }
+    }
+
+    /// The network's text: a line for each live node, then one for each output. `Err` exactly where memory ran out. Linear in the
+    /// network.
+    pub fn print(&self, alloc: Global) -> Result<String, AllocError>
+        ensures { IfOk result (λ text. string_bytes text ≡ print_text (network_in self.now)) }
+    {
+        match self {
+            AnyNet::Aig(net) => print(alloc, net),
+            AnyNet::Xag(net) => print(alloc, net),
+            AnyNet::Mig(net) => print(alloc, net),
+            AnyNet::Klut(net) => print(alloc, net),
+        }
+    }
+
+    /// Attaches a detached view for a spec of its kind, under the least number that no live view has. Refused for want of memory,
+    /// the box comes back, detached and of its kind, and no view changed. Linear in the network, and in the views.
+    pub fn subscribe(
+        &mut self,
+        view: Box<dyn View>,
+        spec: ViewSpec,
+    ) -> Result<ViewId, (Box<dyn View>, AllocError)>
+        requires detached { spec_of view ≡ None }
+        requires of_kind { kind_for spec ≡ kind_of view }
+        requires rule { IsSpec spec }
+        requires in_step { EachSlot (Fits spec_of kept room (network_in self.old) (core_in self.old).room) (views_in self.old) }
+        ensures core { core_in self.new ≡ core_in self.old }
+        ensures id { IfOk result (λ id. IsLeastEmpty (views_in self.old) id.0) }
+        ensures stands { IfOk result (λ id. IsSomeAnd (slice_index_or (views_in self.new) id.0 None) (StandsAs kind_of spec_of (kind_of view) spec)) }
+        ensures others { IfOk result (λ id. OthersSame (views_in self.old) (views_in self.new) id.0) }
+        ensures same { OnErr result (views_in self.new ≡ views_in self.old) }
+        ensures back { IfErr result (λ e. (spec_of e.0 ≡ None) × (kind_of e.0 ≡ kind_of view)) }
+        ensures in_step { EachSlot (Fits spec_of kept room (network_in self.new) (core_in self.new).room) (views_in self.new) }
+    {
+        match self {
+            AnyNet::Aig(net) => net.subscribe(view, spec),
+            AnyNet::Xag(net) => net.subscribe(view, spec),
+            AnyNet::Mig(net) => net.subscribe(view, spec),
+            AnyNet::Klut(net) => net.subscribe(view, spec),
+        }
+    }
+
+    /// Takes a view out, detached: `None` exactly where no live view has the id. The other views stay under their ids. It takes no
+    /// memory. Constant time, beside the drop of the view's answers.
+    pub fn unsubscribe(&mut self, id: ViewId) -> Option<Box<dyn View>>
+        requires in_step { EachSlot (Fits spec_of kept room (network_in self.old) (core_in self.old).room) (views_in self.old) }
+        ensures core { core_in self.new ≡ core_in self.old }
+        ensures some { IsSome result ↔ IsSome (slice_index_or (views_in self.old) id.0 None) }
+        ensures detached { IfSome result (λ b. spec_of b ≡ None) }
+        ensures kind { option_map kind_of result ≡ option_map kind_of (slice_index_or (views_in self.old) id.0 None) }
+        ensures empty { slice_index_or (views_in self.new) id.0 None ≡ None }
+        ensures others { OthersSame (views_in self.old) (views_in self.new) id.0 }
+        ensures in_step { EachSlot (Fits spec_of kept room (network_in self.new) (core_in self.new).room) (views_in self.new) }
+    {
+        match self {
+            AnyNet::Aig(net) => net.unsubscribe(id),
+            AnyNet::Xag(net) => net.unsubscribe(id),
+            AnyNet::Mig(net) => net.unsubscribe(id),
+            AnyNet::Klut(net) => net.unsubscribe(id),
+        }
+    }
+
+    /// The level that the view with the id keeps for the node: `None` exactly where no live view has the id, or it keeps no level
+    /// of the node. Constant time.
+    pub fn level(&self, id: ViewId, n: Node) -> Option<u32>
+        ensures { result ≡ level_kept (option_map (λ b. (⟦<dyn View as View>⟧ b.vtable).kept b.value n.0) (slice_index_or (views_in self.now) id.0 None)) }
+    {
+        match self {
+            AnyNet::Aig(net) => net.level(id, n),
+            AnyNet::Xag(net) => net.level(id, n),
+            AnyNet::Mig(net) => net.level(id, n),
+            AnyNet::Klut(net) => net.level(id, n),
+        }
+    }
+}

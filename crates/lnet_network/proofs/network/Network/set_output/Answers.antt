@@ -1,0 +1,27 @@
+use Rattle.std.proofs.Common.{IsSome, refl, sym, ap, subst, ◌∙◌}
+use Rattle.lnet_model.specs.Networks.{entry_at}
+use Rattle.lnet_store.specs.StoreValues.{with_output}
+use Rattle.lnet_hashed.specs.Strashed.{of_kind}
+use Rattle.lnet_hashed.specs.Views.{EachSlot, Fits}
+use Rattle.lnet_network.proofs.OfKind.{entry-kind, fits-kind, kind-fits}
+use Rattle.lnet_network.proofs.OtherOutputs.{set-outputs, strashed-outputs, room-outputs, fits-outputs, output-kind}
+use Rattle.lnet_network.proofs.network.Network.set_output.Goals as goal
+
+pub set_output-requires-clause-live : goal.set_output-requires-clause-live
+set_output-requires-clause-live g c = subst IsSome (sym (ap (λ n. entry_at n.core.network c.args.s.node.0) c.self.view_is) ∙ entry-kind g.G.Gates.KIND c.self.inside.0.0.hashed.store.network c.args.s.node.0) c.requires.live
+
+pub invariant_of-self : goal.invariant_of-self
+invariant_of-self g c =
+    let is = set-outputs c.self.inside.0.0.hashed.store.network c.set_output.new.self.network c.args.k c.args.s c.set_output.ensures.network in
+    (strashed-outputs g.G.Gates.KIND g.G.Gates.form c.self.inside.0.0.hashed.store.network c.set_output.new.self.network is c.self.invariant.0, room-outputs c.self.inside.0.0.hashed (record { store = c.set_output.new.self; room = c.self.inside.0.0.hashed.room; marks = c.self.inside.0.0.hashed.marks }) is refl refl c.set_output.ensures.spare c.self.invariant.1)
+
+pub returns-clause-network : goal.returns-clause-network
+returns-clause-network g c = ap (of_kind g.G.Gates.KIND) c.set_output.ensures.network ∙ output-kind g.G.Gates.KIND c.self.inside.0.0.hashed.store.network c.args.k c.args.s ∙ ap (λ n. with_output n.core.network c.args.k c.args.s) c.self.view_is
+
+pub returns-clause-in_step : goal.returns-clause-in_step
+returns-clause-in_step g c =
+    let is = set-outputs c.self.inside.0.0.hashed.store.network c.set_output.new.self.network c.args.k c.args.s c.set_output.ensures.network in
+    fits-kind (λ b. (goal.View-dyn g (b.vtable, b.value)).spec_of b.value) (λ b. (goal.View-dyn g (b.vtable, b.value)).kept b.value) (λ b. (goal.View-dyn g (b.vtable, b.value)).room b.value) g.G.Gates.KIND c.set_output.new.self.network c.self.inside.0.0.hashed.room c.self.inside.0.1.0.items
+    (subst (λ M. EachSlot (Fits (λ b. (goal.View-dyn g (b.vtable, b.value)).spec_of b.value) (λ b. (goal.View-dyn g (b.vtable, b.value)).kept b.value) (λ b. (goal.View-dyn g (b.vtable, b.value)).room b.value) M c.self.inside.0.0.hashed.room) c.self.inside.0.1.0.items) (sym is) (fits-outputs (λ b. (goal.View-dyn g (b.vtable, b.value)).spec_of b.value) (λ b. (goal.View-dyn g (b.vtable, b.value)).kept b.value) (λ b. (goal.View-dyn g (b.vtable, b.value)).room b.value) c.self.inside.0.0.hashed.store.network c.set_output.new.self.network.outputs c.self.inside.0.0.hashed.room c.self.inside.0.1.0.items
+    (kind-fits (λ b. (goal.View-dyn g (b.vtable, b.value)).spec_of b.value) (λ b. (goal.View-dyn g (b.vtable, b.value)).kept b.value) (λ b. (goal.View-dyn g (b.vtable, b.value)).room b.value) g.G.Gates.KIND c.self.inside.0.0.hashed.store.network c.self.inside.0.0.hashed.room c.self.inside.0.1.0.items
+    (subst (λ n. EachSlot (Fits (λ b. (goal.View-dyn g (b.vtable, b.value)).spec_of b.value) (λ b. (goal.View-dyn g (b.vtable, b.value)).kept b.value) (λ b. (goal.View-dyn g (b.vtable, b.value)).room b.value) n.core.network n.core.room) n.views.items) (sym c.self.view_is) c.requires.in_step))))

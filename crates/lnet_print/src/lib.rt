@@ -1,0 +1,14 @@
+//! Networks as text, node by node.
+#![tactic(auto)]
+
+mod counting;
+mod laws;
+mod nodes;
+mod printing;
+mod signals;
+#[cfg(test)]
+mod tests;
+
+pub use counting::gate_count;
+pub use laws::worked_texts;
+pub use printing::print;

@@ -1,0 +1,4 @@
+mod Standing
+mod Shelved
+mod Placed
+mod Asked

@@ -1,0 +1,6 @@
+mod StandLemmas
+mod PortValues
+mod EquationValues
+mod BuiltValues
+mod RaiseLemmas
+mod Tidy

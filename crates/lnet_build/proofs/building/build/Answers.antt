@@ -1,0 +1,16 @@
+use Rattle.std.proofs.Common.{ap, ◌∙◌}
+use Rattle.lnet_model.specs.Networks.{NetworkValue}
+use Rattle.lnet_model.specs.Values.{network_outputs}
+use Rattle.lnet_hashed.proofs.SweptValues.{outputs-kept}
+use Rattle.lnet_build.proofs.BuiltValues.{unswept-values}
+use Rattle.lnet_build.proofs.Tidy.{swept-tidy}
+use Rattle.lnet_build.proofs.building.build.Goals as goal
+
+pub returns-clause-outputs : goal.returns-clause-outputs
+returns-clause-outputs g c a =
+    outputs-kept c.raise.new.net.core.network c.sweep.new.self.core.network c.sweep.ensures.network.trimmed c.in_ok-raise.ensures.stored a
+    ∙ ap (λ (N : NetworkValue). network_outputs N a) c.in_ok-raise.ensures.network
+    ∙ unswept-values g.G.Gates.KIND g.G.Gates.form c.args.circuit.now g.met.G.Gates.laws c.equations-circuit.ensures.circuit c.in_ok-raise.ensures.words c.in_ok-raise.ensures.fits a
+
+pub returns-clause-tidy : goal.returns-clause-tidy
+returns-clause-tidy g c = swept-tidy c.raise.new.net.core.network c.sweep.new.self.core.network c.sweep.ensures.network

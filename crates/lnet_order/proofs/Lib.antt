@@ -1,0 +1,4 @@
+pub mod PlaceLemmas
+pub mod PathLemmas
+pub mod CallLemmas
+pub mod SoundLemmas

@@ -1,0 +1,87 @@
+-- What joins of signals leave: exactly the nodes of the definition, live signals, and the values.
+use Rattle.std.proofs.Common.{◌≡◌, ℕ, suc, ◌+◌, ◌<◌, ◌≤◌, List, [], ◌∷◌, length, get_or, drop, Result, Ok, Err, IfOk, OnOk, sym, ap, subst, ◌∙◌, inl, inr, arith}
+use Rattle.std.proofs.Math.Seq.{drop-cons}
+use Rattle.std.proofs.lemmas.List.{drop_all}
+use Rattle.lnet_gates.specs.declared.signal.Signal.{Signal}
+use Rattle.lnet_gates.specs.declared.gate.Kind.{Kind}
+use Rattle.lnet_gates.specs.declared.gate.Op.{Op}
+use Rattle.lnet_gates.specs.declared.gate.Op.TheVariants as op
+use Rattle.lnet_gates.specs.Operands.{complemented}
+use Rattle.lnet_gates.specs.declared.normal.Normal.{Normal}
+use Rattle.lnet_gates.specs.Gates.{GateValue}
+use Rattle.lnet_gates.specs.Natives.{IsNativeGate, FitsWord}
+use Rattle.lnet_gates.specs.NormalLaws.{NormalLaws}
+use Rattle.lnet_gates.specs.Plans.{Takes}
+use Rattle.lnet_model.specs.Networks.{NetworkValue, IsLive, live_count}
+use Rattle.lnet_model.specs.Along.{nodes_read}
+use Rattle.lnet_model.specs.Changes.{AreLive}
+use Rattle.lnet_model.specs.Dags.{IsStored, NUMBERS}
+use Rattle.lnet_hashed.specs.Strashed.{Placed}
+use Rattle.lnet_hashed.specs.Laid.{made}
+use Rattle.lnet_hashed.proofs.Extensions.{extends-live}
+use Rattle.lnet_hashed.proofs.LaidValues.{made-stands, made-grows}
+use Rattle.lnet_rules.specs.declared.joining.Join.{Join}
+use Rattle.lnet_rules.specs.declared.joining.Join.TheVariants.{And, Or, Xor}
+use Rattle.lnet_rules.specs.Joins.{by_join, joined_from}
+use Rattle.lnet_rules.specs.Live.{KeepsLive}
+
+module _ (kind : Kind) (form : GateValue → Normal) (laws : NormalLaws (IsNativeGate kind) form) (N : NetworkValue) (f : Op) (operands : List Signal) (takes : Takes f (length operands)) (fits : FitsWord f) (stored : IsStored N) (live : AreLive N (nodes_read operands)) where
+  -- the signal of an operation is live, and so is what was
+  pub made-live : (M : NetworkValue) (s : Signal) → live_count M ≤ NUMBERS → made kind form N f operands ≡ record { network = M; signal = s } → IsLive M s.node.0 × KeepsLive N M
+  made-live M s few is =
+      let stands = made-stands kind form laws N f operands takes fits stored live (subst (λ (p : Placed). live_count p.network ≤ NUMBERS) (sym is) few) in
+      (subst (λ (p : Placed). IsLive p.network p.signal.node.0) is stands.live, λ n here. subst (λ (p : Placed). IsLive p.network n) is (extends-live N (made kind form N f operands).network stands.extends n here))
+
+  pub answer-live : {E : Type 0} (M : NetworkValue) (r : Result Signal E) → live_count M ≤ NUMBERS → IfOk r (λ s. made kind form N f operands ≡ record { network = M; signal = s }) → IfOk r (λ s. IsLive M s.node.0)
+  answer-live M (Ok s) few is = (made-live M s few is).0
+  answer-live M (Err e) few is = tt
+
+  pub answer-keeps : {E : Type 0} (M : NetworkValue) (r : Result Signal E) → live_count M ≤ NUMBERS → IfOk r (λ s. made kind form N f operands ≡ record { network = M; signal = s }) → OnOk r (KeepsLive N M)
+  answer-keeps M (Ok s) few is = (made-live M s few is).1
+  answer-keeps M (Err e) few is = tt
+
+-- ---- two signals
+
+pub both-live : (N : NetworkValue) (a b : Signal) → IsLive N a.node.0 → IsLive N b.node.0 → AreLive N (nodes_read (a ∷ b ∷ []))
+both-live N a b here there m (inl e) = subst (IsLive N) (sym e) here
+both-live N a b here there m (inr (inl e)) = subst (IsLive N) (sym e) there
+both-live N a b here there m (inr (inr i)) = absurd i
+
+-- no node goes as signals are joined
+pub by_join-grows : (kind : Kind) (form : GateValue → Normal) (how : Join) (N : NetworkValue) (a b : Signal) → live_count N ≤ live_count (by_join kind form how N a b).network
+by_join-grows kind form And N a b = made-grows kind form N op.And (a ∷ b ∷ [])
+by_join-grows kind form Or N a b = made-grows kind form N op.And (complemented a ∷ complemented b ∷ [])
+by_join-grows kind form Xor N a b = made-grows kind form N op.Xor (a ∷ b ∷ [])
+
+pub joined_from-grows : (kind : Kind) (form : GateValue → Normal) (how : Join) (p : Placed) (ss : List Signal) → live_count p.network ≤ live_count (joined_from kind form how p ss).network
+unfolding joined_from
+joined_from-grows kind form how p [] = let n = live_count p.network in omega arith
+joined_from-grows kind form how p (s ∷ ss) =
+    let once = by_join-grows kind form how p.network p.signal s in
+    let rest = joined_from-grows kind form how (by_join kind form how p.network p.signal s) ss in
+    omega arith
+
+-- ---- signal by signal
+
+module _ (kind : Kind) (form : GateValue → Normal) (how : Join) (all : Placed) (ss : List Signal) (i : ℕ) (d : Signal) (low : i < length ss) (p : Placed) (so_far : joined_from kind form how p (drop i ss) ≡ all) where
+  next-is : joined_from kind form how (by_join kind form how p.network p.signal (get_or ss i d)) (drop (i + 1) ss) ≡ all
+  unfolding joined_from
+  next-is =
+      let more : suc i ≡ i + 1 = omega arith in
+      sym (ap (joined_from kind form how p) (drop-cons ss i d low ∙ ap (λ j. get_or ss i d ∷ drop j ss) more)) ∙ so_far
+
+  -- one signal more
+  pub joined-next : (q : Placed) → by_join kind form how p.network p.signal (get_or ss i d) ≡ q → joined_from kind form how q (drop (i + 1) ss) ≡ all
+  joined-next q built = sym (ap (λ (r : Placed). joined_from kind form how r (drop (i + 1) ss)) built) ∙ next-is
+
+  -- what is past the limit for two signals is so for all
+  pub joined-full : NUMBERS < live_count (by_join kind form how p.network p.signal (get_or ss i d)).network → NUMBERS < live_count all.network
+  joined-full past =
+      let more = joined_from-grows kind form how (by_join kind form how p.network p.signal (get_or ss i d)) (drop (i + 1) ss) in
+      let same = ap (λ (r : Placed). live_count r.network) next-is in
+      omega arith
+
+-- no signal is left
+pub joined-end : (kind : Kind) (form : GateValue → Normal) (how : Join) (p all : Placed) (ss : List Signal) (i : ℕ) → length ss ≤ i → joined_from kind form how p (drop i ss) ≡ all → all ≡ p
+unfolding joined_from
+joined-end kind form how p all ss i past so_far = sym so_far ∙ ap (joined_from kind form how p) (drop_all i ss past)

@@ -1,0 +1,6 @@
+pub mod NoViews
+pub mod JoinLemmas
+pub mod CoverLemmas
+pub mod RowLemmas
+pub mod JoinValues
+pub mod RuleValues

@@ -1,0 +1,20 @@
+use Rattle.std.proofs.Common.{◌≡◌, ◌∙◌, ℕ, List, ap, subst, sym, rules}
+use Rattle.lnet_aiger.specs.Numberings.{place_in}
+use Rattle.lnet_aiger.specs.Texts.{ascii_by}
+use Rattle.lnet_aiger.specs.Written.{MeansSame}
+use Rattle.lnet_aiger.proofs.WritingSteps.{place_in-variable_of}
+use Rattle.lnet_aiger.proofs.TextMeans.{ascii_means}
+use Rattle.lnet_aiger.proofs.writing.write_ascii.Goals as goal
+
+text : goal.returns-clause-text
+text c =
+    let e : c.into_bytes.result.items ≡ ascii_by (place_in c.in_ok-variables.variables) c.args.circuit.now = search rules in
+    e ∙ ap (λ (v : ℕ → ℕ). ascii_by v c.args.circuit.now) (place_in-variable_of c.in_ok-variables.variables c.args.circuit.now c.in_ok-variables.ensures.places)
+
+pub returns-clause-text : goal.returns-clause-text
+returns-clause-text c = text c
+
+pub returns-clause-means : goal.returns-clause-means
+returns-clause-means c =
+    let names = c.in_ok-put_rest.ensures in
+    subst (λ (bytes : List ℕ). MeansSame bytes c.args.circuit.now) (sym (text c)) (ascii_means c.args.circuit.now c.in_ok-variables.ensures.circuit c.requires names.inputs names.outputs)

@@ -1,0 +1,12 @@
+pub mod Chain
+pub mod Header
+pub mod LineRules
+pub mod Symbols
+pub mod Deltas
+pub mod Reading
+pub mod Grammar
+pub mod Faults
+pub mod Texts
+pub mod Written
+pub mod Numberings
+pub mod Views

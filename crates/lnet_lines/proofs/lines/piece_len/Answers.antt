@@ -1,0 +1,11 @@
+use Rattle.std.proofs.Common.{sym, arith}
+use Rattle.std.proofs.lemmas.Bool.Decides.{nat_tests}
+use Rattle.std.proofs.lemmas.List.Sums.{position_or_len_is}
+use Rattle.lnet_lines.specs.Lines.{is_newline}
+use Rattle.lnet_lines.proofs.lines.piece_len.Goals as goal
+
+pub returns-then-byte-eq10-clause-place : goal.returns-then-byte-eq10-clause-place
+returns-then-byte-eq10-clause-place c = sym (position_or_len_is is_newline c.args.bytes.now c.loop-i.i 0 (omega arith) c.loop-i.invariant (λ _. grind (arith, nat_tests)))
+
+pub returns-clause-place : goal.returns-clause-place
+returns-clause-place c = sym (position_or_len_is is_newline c.args.bytes.now _ 0 (omega arith) (λ k lt. c.loop-i.invariant k (omega arith)) (λ lt. absurd (omega arith)))

@@ -1,0 +1,9 @@
+pub mod HexDigits
+pub mod Operands
+pub mod Referring
+pub mod NameBytes
+pub mod Fitting
+pub mod TextLemmas
+pub mod ListingLemmas
+pub mod Answering
+pub mod NumberLaws

@@ -1,0 +1,78 @@
+-- The text that a command leaves in the transcript.
+use Rattle.std.specs.Prelude.{ℕ, Bool, true, false, List, [], ◌∷◌, ◌++◌, codes, string_bytes}
+use Rattle.std.specs.Fmt.{decimal}
+use Rattle.lnet_edge.specs.declared.fault.Fault.{Fault}
+use Rattle.lnet_edge.specs.declared.fault.Fault.TheVariants as faults
+use Rattle.lnet_gates.specs.declared.gate.Kind.{Kind}
+use Rattle.lnet_gates.specs.declared.gate.Kind.TheVariants.{Aig, Xag, Mig, Klut}
+use Rattle.lnet_model.specs.declared.view_spec.ViewSpec.{ViewSpec}
+use Rattle.lnet_model.specs.declared.view_spec.ViewSpec.TheVariants as views
+use Rattle.lnet_replies.specs.declared.reply.Unmet.{Unmet}
+use Rattle.lnet_replies.specs.declared.reply.Unmet.TheVariants as unmet
+use Rattle.lnet_replies.specs.declared.reply.Reply.{Reply}
+use Rattle.lnet_replies.specs.declared.reply.Reply.TheVariants as reply
+
+-- whether a command was not met
+abbrev pub is_unmet : Reply → Bool
+is_unmet (reply.Unmet cause) = true
+is_unmet _ = false
+
+abbrev pub fault_name : Fault → List ℕ
+fault_name faults.Unbuilt = codes "Unbuilt"
+fault_name faults.Header = codes "Header"
+fault_name faults.TooMany = codes "TooMany"
+fault_name faults.Property = codes "Property"
+fault_name faults.Sequential = codes "Sequential"
+fault_name faults.Missing = codes "Missing"
+fault_name faults.Syntax = codes "Syntax"
+fault_name faults.Literal = codes "Literal"
+fault_name faults.Delta = codes "Delta"
+fault_name faults.Symbol = codes "Symbol"
+fault_name faults.Cover = codes "Cover"
+fault_name faults.Unsupported = codes "Unsupported"
+fault_name faults.Undriven = codes "Undriven"
+fault_name faults.Twice = codes "Twice"
+fault_name faults.Cycle = codes "Cycle"
+
+-- the word of a kind of networks
+abbrev pub kind_word : Kind → List ℕ
+kind_word Aig = codes "aig"
+kind_word Xag = codes "xag"
+kind_word Mig = codes "mig"
+kind_word Klut = codes "klut"
+
+-- the words of a view's spec
+abbrev pub view_word : ViewSpec → List ℕ
+view_word views.Depth = codes "depth"
+view_word views.Fanout = codes "fanout"
+view_word (views.Cuts rule) = codes "cuts " ++ (decimal rule.size ++ (32 ∷ decimal rule.limit))
+
+-- why a command was not met, after its index
+abbrev pub cause_text : Unmet → List ℕ
+cause_text unmet.NoNetwork = codes "NoNetwork"
+cause_text (unmet.Malformed line fault) = codes "Malformed " ++ (decimal line ++ (32 ∷ fault_name fault))
+cause_text unmet.TooLong = codes "TooLong"
+cause_text unmet.Full = codes "Full"
+cause_text unmet.NoView = codes "NoView"
+cause_text unmet.ShelfEmpty = codes "ShelfEmpty"
+cause_text unmet.NoNode = codes "NoNode"
+cause_text unmet.WrongKind = codes "WrongKind"
+
+-- the line of a command that was not met, the index counting commands from 1
+abbrev pub unmet_text : ℕ → Unmet → List ℕ
+unmet_text index cause = codes "unmet " ++ (decimal index ++ (32 ∷ (cause_text cause ++ 10 ∷ [])))
+
+-- the kind and the counts of a network
+abbrev pub counts_text : Kind → ℕ → ℕ → ℕ → List ℕ
+counts_text kind inputs outputs gates = kind_word kind ++ (codes " inputs " ++ (decimal inputs ++ (codes " outputs " ++ (decimal outputs ++ (codes " gates " ++ decimal gates)))))
+
+-- the text of a command that was met or not, the index counting commands from 1
+abbrev pub reply_text : ℕ → Reply → List ℕ
+reply_text index (reply.Network kind inputs outputs gates) = codes "network " ++ (counts_text kind inputs outputs gates ++ 10 ∷ [])
+reply_text index (reply.Wrote bytes) = codes "wrote " ++ (decimal bytes ++ 10 ∷ [])
+reply_text index (reply.Viewed number spec) = codes "view " ++ (decimal number ++ (32 ∷ (view_word spec ++ 10 ∷ [])))
+reply_text index (reply.Dropped number) = codes "dropped " ++ (decimal number ++ 10 ∷ [])
+reply_text index (reply.Level node level) = codes "level " ++ (decimal node ++ (32 ∷ (decimal level ++ 10 ∷ [])))
+reply_text index (reply.Printed text) = string_bytes text
+reply_text index (reply.Stats kind inputs outputs gates depth) = codes "stats " ++ (counts_text kind inputs outputs gates ++ (codes " depth " ++ (decimal depth ++ 10 ∷ [])))
+reply_text index (reply.Unmet cause) = unmet_text index cause

@@ -1,0 +1,8 @@
+//! What the commands of a script answer, and the lines of the transcript.
+#![tactic(auto)]
+
+mod reply;
+#[cfg(test)]
+mod tests;
+
+pub use reply::{Reply, Unmet, is_met, text_of_reply};

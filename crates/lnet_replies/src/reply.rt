@@ -1,0 +1,209 @@
+//! What a command answers, and its text in the transcript.
+
+ghost use Rattle.std.specs.Prelude.{◌≡◌, ◌++◌, ◌∷◌, [], codes, not, IfOk, string_bytes};
+ghost use Rattle.std.specs.Fmt.{decimal};
+ghost use Rattle.lnet_replies.specs.Texts.{cause_text, counts_text, fault_name, is_unmet, kind_word, reply_text, view_word};
+
+use lnet_edge::Fault;
+use lnet_gates::Kind;
+use lnet_model::ViewSpec;
+use std::alloc::{AllocError, Global};
+
+/// Why a command was not met. The session and the files are then as before.
+#[derive(Clone, Copy, Debug, PartialEq, Eq)]
+pub enum Unmet {
+    /// No network is in place.
+    NoNetwork,
+    /// A read of a content that means no circuit: the line, counted from 1 with 0 for the whole content, and the rule
+    /// that is broken there.
+    Malformed(u32, Fault),
+    /// A read of a content of more than 67,108,864 bytes.
+    TooLong,
+    /// A network that needs more than 1,048,576 numbers.
+    Full,
+    /// No live view of the needed kind has the number.
+    NoView,
+    /// No view of the kind is on the shelf.
+    ShelfEmpty,
+    /// The node isn't live.
+    NoNode,
+    /// The network is of another kind than the command takes.
+    WrongKind,
+}
+
+/// What a command answers. It determines the text in the transcript and whether the command was met.
+#[derive(Debug, Drop)]
+pub enum Reply {
+    /// A network of this kind was put in place, with so many inputs, outputs and gates.
+    Network {
+        kind: Kind,
+        inputs: u32,
+        outputs: u32,
+        gates: u32,
+    },
+    /// The network was written, in so many bytes.
+    Wrote(usize),
+    /// A view was attached under this number, for this spec.
+    Viewed {
+        number: u32,
+        spec: ViewSpec,
+    },
+    /// The view with this number was put back.
+    Dropped(u32),
+    /// The node has this level.
+    Level {
+        node: u32,
+        level: u32,
+    },
+    /// The lines of the network.
+    Printed(String),
+    /// The network's kind, counts and depth.
+    Stats {
+        kind: Kind,
+        inputs: u32,
+        outputs: u32,
+        gates: u32,
+        depth: u32,
+    },
+    /// The command was not met.
+    Unmet(Unmet),
+}
+
+/// Whether the command was met.
+pub fn is_met(reply: &Reply) -> bool
+    ensures { result ≡ not (is_unmet reply.now) }
+{
+    match reply {
+        Reply::Unmet(_) => false,
+        _ => true,
+    }
+}
+
+/// The word of a kind of networks.
+fn kind_word(kind: Kind) -> &'static str
+    ensures { result.now ≡ kind_word kind }
+{
+    match kind {
+        Kind::Aig => "aig",
+        Kind::Xag => "xag",
+        Kind::Mig => "mig",
+        Kind::Klut => "klut",
+    }
+}
+
+/// The words of a view's spec.
+fn view_words(alloc: Global, spec: ViewSpec) -> Result<String, AllocError>
+    ensures { IfOk result (λ text. string_bytes text ≡ view_word spec) }
+{
+    match spec {
+        ViewSpec::Depth => format!(in alloc; "depth"),
+        ViewSpec::Fanout => format!(in alloc; "fanout"),
+        ViewSpec::Cuts(rule) => {
+            let size = rule.size;
+            let limit = rule.limit;
+            format!(in alloc; "cuts {size} {limit}")
+        }
+    }
+}
+
+/// The name of a fault.
+fn fault_name(fault: Fault) -> &'static str
+    ensures { result.now ≡ fault_name fault }
+{
+    match fault {
+        Fault::Unbuilt => "Unbuilt",
+        Fault::Header => "Header",
+        Fault::TooMany => "TooMany",
+        Fault::Property => "Property",
+        Fault::Sequential => "Sequential",
+        Fault::Missing => "Missing",
+        Fault::Syntax => "Syntax",
+        Fault::Literal => "Literal",
+        Fault::Delta => "Delta",
+        Fault::Symbol => "Symbol",
+        Fault::Cover => "Cover",
+        Fault::Unsupported => "Unsupported",
+        Fault::Undriven => "Undriven",
+        Fault::Twice => "Twice",
+        Fault::Cycle => "Cycle",
+    }
+}
+
+/// The words of a cause.
+fn cause_words(alloc: Global, cause: Unmet) -> Result<String, AllocError>
+    ensures { IfOk result (λ text. string_bytes text ≡ cause_text cause) }
+{
+    match cause {
+        Unmet::NoNetwork => format!(in alloc; "NoNetwork"),
+        Unmet::Malformed(line, fault) => {
+            let name = fault_name(fault);
+            format!(in alloc; "Malformed {line} {name}")
+        }
+        Unmet::TooLong => format!(in alloc; "TooLong"),
+        Unmet::Full => format!(in alloc; "Full"),
+        Unmet::NoView => format!(in alloc; "NoView"),
+        Unmet::ShelfEmpty => format!(in alloc; "ShelfEmpty"),
+        Unmet::NoNode => format!(in alloc; "NoNode"),
+        Unmet::WrongKind => format!(in alloc; "WrongKind"),
+    }
+}
+
+/// The words of a network's kind and counts.
+fn counts_words(
+    alloc: Global,
+    kind: Kind,
+    inputs: u32,
+    outputs: u32,
+    gates: u32,
+) -> Result<String, AllocError>
+    ensures { IfOk result (λ text. string_bytes text ≡ counts_text kind inputs outputs gates) }
+{
+    let word = kind_word(kind);
+    format!(in alloc; "{word} inputs {inputs} outputs {outputs} gates {gates}")
+}
+
+/// The line of a network's kind, counts and depth.
+fn stats_line(alloc: Global, counts: &str, depth: u32) -> Result<String, AllocError>
+    ensures { IfOk result (λ text. string_bytes text ≡ codes "stats " ++ (counts.now ++ (codes " depth " ++ (decimal depth ++ 10 ∷ [])))) }
+{
+    format!(in alloc; "stats {counts} depth {depth}\n")
+}
+
+/// The text of the transcript for the command of this index, counted from 1. `Err` exactly where memory ran out.
+pub fn text_of_reply(alloc: Global, index: u32, reply: Reply) -> Result<String, AllocError>
+    ensures { IfOk result (λ text. string_bytes text ≡ reply_text index reply) }
+{
+    match reply {
+        Reply::Network {
+            kind,
+            inputs,
+            outputs,
+            gates,
+        } => {
+            let counts = counts_words(alloc, kind, inputs, outputs, gates)?;
+            format!(in alloc; "network {counts}\n")
+        }
+        Reply::Wrote(bytes) => format!(in alloc; "wrote {bytes}\n"),
+        Reply::Viewed { number, spec } => {
+            let words = view_words(alloc, spec)?;
+            format!(in alloc; "view {number} {words}\n")
+        }
+        Reply::Dropped(number) => format!(in alloc; "dropped {number}\n"),
+        Reply::Level { node, level } => format!(in alloc; "level {node} {level}\n"),
+        Reply::Printed(text) => Ok(text),
+        Reply::Stats {
+            kind,
+            inputs,
+            outputs,
+            gates,
+            depth,
+        } => {
+            let counts = counts_words(alloc, kind, inputs, outputs, gates)?;
+            stats_line(alloc, &counts, depth)
+        }
+        Reply::Unmet(cause) => {
+            let words = cause_words(alloc, cause)?;
+            format!(in alloc; "unmet {index} {words}\n")
+        }
+    }
+}

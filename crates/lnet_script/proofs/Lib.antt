@@ -1,0 +1,7 @@
+pub mod Cuts
+pub mod Digits
+pub mod WordBytes
+pub mod AddingLemmas
+pub mod KeywordLaws
+pub mod CommandLaws
+pub mod ScriptLaws

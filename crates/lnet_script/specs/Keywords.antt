@@ -1,0 +1,66 @@
+-- What one word stands for: a keyword, a number or a name.
+use Rattle.std.specs.Prelude.{ℕ, ◌^◌, Bool, not, ◌&&◌, ◌==◌, nat_lt, List, [], ◌∷◌, length, slice_index, Option, Some, None, find, codes, if◌then◌else◌}
+use Rattle.std.specs.Str.{bytes_eq, all_ascii_digits}
+use Rattle.std.specs.Str.Parse.{digits_value}
+use Rattle.lnet_gates.specs.declared.gate.Kind.{Kind}
+use Rattle.lnet_gates.specs.declared.gate.Kind.TheVariants.{Aig, Xag, Mig, Klut}
+use Rattle.lnet_model.specs.declared.view_spec.ViewKind.{ViewKind}
+use Rattle.lnet_model.specs.declared.view_spec.ViewKind.TheVariants as kinds
+use Rattle.lnet_model.specs.declared.view_spec.ViewSpec.{ViewSpec}
+use Rattle.lnet_model.specs.declared.view_spec.ViewSpec.TheVariants as views
+use Rattle.lnet_script.specs.declared.command.ReadFormat.{ReadFormat}
+use Rattle.lnet_script.specs.declared.command.ReadFormat.TheVariants.{Aiger}
+use Rattle.lnet_script.specs.declared.command.WriteFormat.{WriteFormat}
+use Rattle.lnet_script.specs.declared.command.WriteFormat.TheVariants.{Aag}
+use Rattle.lnet_script.specs.declared.keywords.Verb.{Verb}
+use Rattle.lnet_script.specs.declared.keywords.Verb.TheVariants as verbs
+use Rattle.lnet_script.specs.Spelling.{kind_word}
+use Rattle.lnet_script.specs.Pieces.{is_word}
+
+-- the first word of a command
+abbrev pub verb_word : Verb → List ℕ
+verb_word verbs.Read = codes "read"
+verb_word verbs.Write = codes "write"
+verb_word verbs.View = codes "view"
+verb_word verbs.Drop = codes "drop"
+verb_word verbs.Ask = codes "ask"
+verb_word verbs.Print = codes "print"
+verb_word verbs.Stats = codes "stats"
+verb_word verbs.Convert = codes "convert"
+
+-- the command that a word begins
+abbrev pub verb_of : List ℕ → Option Verb
+verb_of word = find (λ v. bytes_eq (verb_word v) word) (verbs.Read ∷ verbs.Write ∷ verbs.View ∷ verbs.Drop ∷ verbs.Ask ∷ verbs.Print ∷ verbs.Stats ∷ verbs.Convert ∷ [])
+
+-- the kind of networks that a word names
+abbrev pub kind_of : List ℕ → Option Kind
+kind_of word = find (λ k. bytes_eq (kind_word k) word) (Aig ∷ Xag ∷ Mig ∷ Klut ∷ [])
+
+-- this value where the word is that text
+abbrev pub if_word : {A : Type 0} → List ℕ → A → List ℕ → Option A
+if_word text x word = if bytes_eq text word then Some x else None
+
+-- the formats, the views of one word, and the kinds of views that answer questions
+abbrev pub read_format_of : List ℕ → Option ReadFormat
+read_format_of word = if_word (codes "aiger") Aiger word
+
+abbrev pub write_format_of : List ℕ → Option WriteFormat
+write_format_of word = if_word (codes "aag") Aag word
+
+abbrev pub view_of : List ℕ → Option ViewSpec
+view_of word = if_word (codes "depth") views.Depth word
+
+abbrev pub query_of : List ℕ → Option ViewKind
+query_of word = if_word (codes "level") kinds.Depth word
+
+-- digits without a leading zero, for a number below 2 ^ 32
+abbrev pub is_numeral : List ℕ → Bool
+is_numeral ds = nat_lt 0 (length ds) && not (nat_lt 1 (length ds) && (slice_index ds 0 == 48)) && nat_lt (digits_value 10 ds) (2 ^ 32)
+
+-- the number of a word
+unfoldable pub number_of : List ℕ → Option ℕ
+number_of word = if all_ascii_digits word && is_numeral word then Some (digits_value 10 word) else None
+
+-- the name that a word is
+unfoldable pub name_of : List ℕ → Option (List ℕ)
+name_of word = if is_word word then Some word else None

@@ -1,0 +1,40 @@
+//! The commands of a script.
+
+use lnet_edge::Name;
+use lnet_gates::Kind;
+use lnet_model::{ViewKind, ViewSpec};
+
+/// The formats that are read.
+#[derive(Clone, Copy, Debug, PartialEq, Eq)]
+pub enum ReadFormat {
+    /// `aiger`: AIGER.
+    Aiger,
+}
+
+/// The formats that are written.
+#[derive(Clone, Copy, Debug, PartialEq, Eq)]
+pub enum WriteFormat {
+    /// `aag`: ASCII AIGER.
+    Aag,
+}
+
+/// A command. Its fields are the words of its syntax in their order.
+#[derive(Drop)]
+pub enum Command {
+    /// `read FORMAT NAME KIND`: puts the network of the file's circuit in place, in that kind.
+    Read(ReadFormat, Name, Kind),
+    /// `write FORMAT NAME`: writes the network under the name.
+    Write(WriteFormat, Name),
+    /// `view depth`: attaches a view from the shelf.
+    View(ViewSpec),
+    /// `drop V`: puts the view back on the shelf.
+    Drop(u32),
+    /// `ask V level NODE`: asks the view for the node's level.
+    Ask(u32, ViewKind, u32),
+    /// `print`: prints the network.
+    Print,
+    /// `stats`: prints the counts of the network.
+    Stats,
+    /// `convert KIND`: puts the network in place that computes the same in that kind.
+    Convert(Kind),
+}

@@ -10,7 +10,7 @@ use Rattle.lnet_gates.specs.Gates.{GateValue, KeyValue, flip}
 use Rattle.lnet_gates.specs.Operands.{flipped}
 use Rattle.lnet_gates.specs.Natives.{IsNativeGate}
 use Rattle.lnet_gates.specs.NormalForms.{carried}
-use Rattle.lnet_gates.specs.NormalLaws.{NormalLaws, IsNativeForm, keyed_gate}
+use Rattle.lnet_gates.specs.NormalLaws.{NormalLaws, AndsKeepPhase, IsNativeForm, keyed_gate}
 use Rattle.lnet_model.specs.Networks.{IsGate, NetworkValue, entry_at, IsLive}
 use Rattle.lnet_model.specs.Along.{In, Depends, Reaches, fanin_nodes, nodes_read}
 use Rattle.lnet_model.specs.Changes.{GateAt, IsGateAt, AreLive, with_entry}
@@ -94,11 +94,11 @@ module _ (kind : Kind) (form : GateValue → Normal) (laws : NormalLaws (IsNativ
     settled-free m i = no_way_back kind form laws C stored.dag.acyclic stored.whole x gx at dirty-native m (form-key kind form laws gx k phase m dirty-native is_key i)
 
     module _ (D : NetworkValue) (is : D ≡ with_entry C x (IsGate (keyed_gate k phase))) where
-      pub settled-goes_on : IsUnusedKey C (marks_of bs) k → GoesOn kind form C bs D (slice_set bs x false)
-      settled-goes_on unused N o s can (rep, I) = (
+      pub settled-goes_on : AndsKeepPhase (IsNativeGate kind) form → IsUnusedKey C (marks_of bs) k → GoesOn kind form C bs D (slice_set bs x false)
+      settled-goes_on and_law unused N o s can (rep, I) = (
         rep,
         subst (λ D. IsCascading kind form N o s D rep (marks_of (slice_set bs x false))) (sym is)
-            (cascade-settle kind form laws N o s C rep (marks_of bs) I x gx at dirty k phase (marks_of (slice_set bs x false)) is_key unused (record {
+            (cascade-settle kind form laws and_law N o s C rep (marks_of bs) I x gx at dirty k phase (marks_of (slice_set bs x false)) is_key unused (record {
               only = λ n i. (cleared bs x n dirty i).0;
               before = λ n i apart. still bs x n i apart;
             })),

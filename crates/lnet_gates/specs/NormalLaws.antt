@@ -66,6 +66,6 @@ pub record NormalLaws (Native : GateValue → Type 0) (normal : GateValue → No
   -- nodes may be replaced before or after, if node 0 stays
   pub agrees : (place : ℕ → Signal) (g : GateValue) → place 0 ≡ constant false → Native g → normal (replaced_in place g) ≡ formed_again normal place (normal g)
 
--- a key of an And has the phase of the native gate whose form it is
+-- a key of an And is the form of an And gate alone, and has its phase
 abbrev pub AndsKeepPhase : (GateValue → Type 0) → (GateValue → Normal) → Type 0
-AndsKeepPhase Native normal = (g : GateValue) (k : KeyValue) (phase : Bool) → Native g → normal g ≡ Gate k phase → k.op ≡ And → phase ≡ g.phase
+AndsKeepPhase Native normal = (g : GateValue) (k : KeyValue) (phase : Bool) → Native g → normal g ≡ Gate k phase → k.op ≡ And → (g.op ≡ And) × (phase ≡ g.phase)

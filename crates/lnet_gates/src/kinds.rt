@@ -39,7 +39,7 @@ pub trait Gates {
     /// The normal forms keep values, names, themselves and replacement.
     ghost laws: { NormalLaws (IsNativeGate KIND) form };
 
-    /// A key of an And has the gate's phase.
+    /// A key of an And is the form of an And gate alone, and has its phase.
     ghost and_phase: { AndsKeepPhase (IsNativeGate KIND) form };
 
     /// How a network of the kind lays the operation on `arity` operands, as `Kind::plan` says: `And` and `Xor` take 2, `Maj`

@@ -5,6 +5,7 @@ use Rattle.std.specs.Ordering.{nat_cmp}
 use Rattle.std.proofs.lemmas.Bool.Decides.{eqb_tells}
 use Rattle.lnet_gates.specs.declared.signal.Signal.{Signal}
 use Rattle.lnet_gates.specs.declared.gate.Kind.{Kind}
+use Rattle.lnet_gates.specs.declared.gate.Op.TheVariants.{And}
 use Rattle.lnet_gates.specs.declared.normal.Normal.{Normal}
 use Rattle.lnet_gates.specs.declared.normal.Normal.TheVariants.{Is, Gate}
 use Rattle.lnet_gates.specs.Gates.{GateValue, KeyValue, flip}
@@ -25,6 +26,7 @@ pub strashed-fewer : (kind : Kind) (form : GateValue → Normal) (M N : NetworkV
 strashed-fewer kind form M N old h = record {
   native = λ n g at. h.native n g (old n g at);
   own_form = λ n g at. h.own_form n g (old n g at);
+  and_phase = λ n g at. h.and_phase n g (old n g at);
   apart = λ m n g k at_m at_n. h.apart m n g k (old m g at_m) (old n k at_n);
 }
 
@@ -62,7 +64,7 @@ strashed-without kind form N n = strashed-fewer kind form (without N n) N (λ m 
 
 -- ---- with a new gate
 
-module _ (kind : Kind) (form : GateValue → Normal) (N : NetworkValue) (n : ℕ) (g : GateValue) (native : IsNativeGate kind g) (own : form g ≡ Gate (key_of g) g.phase) (new : (m : ℕ) (h : GateValue) → GateAt N m h → key_of h ≡ key_of g → ⊥) (h : IsStrashed kind form N) where
+module _ (kind : Kind) (form : GateValue → Normal) (N : NetworkValue) (n : ℕ) (g : GateValue) (native : IsNativeGate kind g) (own : form g ≡ Gate (key_of g) g.phase) (plain : g.op ≡ And → g.phase ≡ false) (new : (m : ℕ) (h : GateValue) → GateAt N m h → key_of h ≡ key_of g → ⊥) (h : IsStrashed kind form N) where
   -- a gate is the new one, or an old one
   case : (P : ℕ → GateValue → Type 0) → P n g → ((m : ℕ) (f : GateValue) → GateAt N m f → P m f) → (m : ℕ) (f : GateValue) → GateAt (with_entry N n (IsGate g)) m f → P m f
   case P here there m f at = elim (eqb_tells m n) as (λ _. P m f) [
@@ -79,6 +81,7 @@ module _ (kind : Kind) (form : GateValue → Normal) (N : NetworkValue) (n : ℕ
   strashed-gate = record {
     native = case (λ m f. IsNativeGate kind f) native h.native;
     own_form = case (λ m f. form f ≡ Gate (key_of f) f.phase) own h.own_form;
+    and_phase = case (λ m f. f.op ≡ And → f.phase ≡ false) plain h.and_phase;
     apart = λ l m e f at_l at_m. case (λ l e. key_of e ≡ key_of f → l ≡ m)
         (case (λ m f. key_of g ≡ key_of f → n ≡ m) (λ _. refl) (λ m f at same. absurd (new m f at (sym same))) m f at_m)
         (λ l e old_l. case (λ m f. key_of e ≡ key_of f → l ≡ m) (λ same. absurd (new l e old_l same)) (λ m f old_m. h.apart l m e f old_l old_m) m f at_m)
@@ -105,7 +108,7 @@ key-native kind k a b h = record { has = h.has; takes = h.takes; fits = h.fits }
 
 module _ (kind : Kind) (form : GateValue → Normal) (N : NetworkValue) (laws : NormalLaws (IsNativeGate kind) form) (h : IsStrashed kind form N) where
   strashed-key : (k : KeyValue) (phase : Bool) (o : Option Signal) → found N k ≡ o → IsNativeGate kind (keyed_gate k false) → form (keyed_gate k false) ≡ Gate k false → IsStrashed kind form (placed_key N k phase o).network
-  strashed-key k phase None none native own = strashed-gate kind form N (least_free N) (keyed_gate k false) native own (found-none N k none) h
+  strashed-key k phase None none native own = strashed-gate kind form N (least_free N) (keyed_gate k false) native own (λ _. refl) (found-none N k none) h
   strashed-key k phase (Some s) there native own = h
 
   strashed-form : (g : GateValue) (f : Normal) → form g ≡ f → IsNativeGate kind g → IsStrashed kind form (placed_form N f).network

@@ -24,10 +24,11 @@ of_kind kind N = record { kind = kind; nodes = N.nodes; inputs = N.inputs; outpu
 abbrev pub key_of : GateValue → KeyValue
 key_of g = record { op = g.op; fanins = g.fanins }
 
--- each gate is one of the kind and its own normal form, and no two gates have one key
+-- each gate is one of the kind and its own normal form, an And has no phase, and no two gates have one key
 pub record IsStrashed (kind : Kind) (form : GateValue → Normal) (N : NetworkValue) : Type 0 where
   pub native : (n : ℕ) (g : GateValue) → GateAt N n g → IsNativeGate kind g
   pub own_form : (n : ℕ) (g : GateValue) → GateAt N n g → form g ≡ Gate (key_of g) g.phase
+  pub and_phase : (n : ℕ) (g : GateValue) → GateAt N n g → g.op ≡ And → g.phase ≡ false
   pub apart : (m n : ℕ) (g h : GateValue) → GateAt N m g → GateAt N n h → key_of g ≡ key_of h → m ≡ n
 
 -- ---- where a gate is placed

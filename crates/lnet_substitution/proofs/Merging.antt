@@ -2,6 +2,7 @@
 use Rattle.std.proofs.Common.{◌≡◌, ◌≢◌, ℕ, Bool, true, false, ◌⊎◌, List, [], ◌∷◌, map, refl, sym, ap, subst, ◌∙◌, inl, inr}
 use Rattle.lnet_gates.specs.declared.signal.Signal.{Signal}
 use Rattle.lnet_gates.specs.declared.gate.Kind.{Kind}
+use Rattle.lnet_gates.specs.declared.gate.Op.TheVariants.{And}
 use Rattle.lnet_gates.specs.declared.normal.Normal.{Normal}
 use Rattle.lnet_gates.specs.declared.normal.Normal.TheVariants.{Is, Gate}
 use Rattle.lnet_gates.specs.Gates.{GateValue, KeyValue, flip}
@@ -60,6 +61,10 @@ module _ (kind : Kind) (form : GateValue → Normal) (laws : NormalLaws (IsNativ
     pub natives-replaced : ((n : ℕ) (g : GateValue) → GateAt C n g → IsNativeGate kind g) → (n : ℕ) (g : GateValue) → GateAt (replaced C x t) n g → IsNativeGate kind g
     natives-replaced native n g at = let r = replaced-gate C x t gx at_x n g at in subst (IsNativeGate kind) r.2 (native-redirected x t r.0 (native n r.0 r.1))
 
+    -- nor does an And get a phase
+    pub phases-replaced : ((n : ℕ) (g : GateValue) → GateAt C n g → g.op ≡ And → g.phase ≡ false) → (n : ℕ) (g : GateValue) → GateAt (replaced C x t) n g → g.op ≡ And → g.phase ≡ false
+    phases-replaced plain n g at = let r = replaced-gate C x t gx at_x n g at in subst (λ (h : GateValue). h.op ≡ And → h.phase ≡ false) r.2 (plain n r.0 r.1)
+
   module _ (C : NetworkValue) (acyclic : Acyclic C) (whole : IsWhole C) (x : ℕ) (gx : GateValue) (at_x : GateAt C x gx) (native : IsNativeGate kind gx) where
     -- no walk leads back from a fanin, nor from the constant
     pub no_way_back : (m : ℕ) → In m (nodes_read gx.fanins) ⊎ (m ≡ 0) → Reaches C m x → ⊥
@@ -93,6 +98,7 @@ module _ (kind : Kind) (form : GateValue → Normal) (laws : NormalLaws (IsNativ
           kept = λ n g at none. gate-stays N o s go at_o n g at (λ e. none ([], gate-live N n g at, e)) (λ i. none (parent_reaches n (gate-fanin N n o g at i)));
           late = λ n i none. none (parent_reaches n (down n i));
           native = natives-replaced N o s go at_o strashed.native;
+          and_phase = phases-replaced N o s go at_o strashed.and_phase;
           own_form = λ n g at clean. strashed.own_form n g (was n g at clean);
           apart = λ m n g h at bt cm cn e. strashed.apart m n g h (was m g at cm) (was n h bt cn) e;
           acyclic = replaced-Acyclic N o s (gate-live N o go at_o) acyclic free;
@@ -132,6 +138,7 @@ module _ (kind : Kind) (form : GateValue → Normal) (laws : NormalLaws (IsNativ
           kept = λ n g at none. gate-stays C x t gx at_x n g (I.kept n g at none) (λ e. I.late x x_dirty (subst (λ z. Reaches N z o → ⊥) e none)) (early_fanin n g at none);
           late = λ n i. elim (after.only n i) as (λ _. (Reaches N n o → ⊥) → ⊥) [ inl j ↦ I.late n j | inr j ↦ parent_late n j ];
           native = natives-replaced C x t gx at_x I.native;
+          and_phase = phases-replaced C x t gx at_x I.and_phase;
           own_form = λ n g at c. I.own_form n g (was n g at c) (clean_before n (x_apart n g at) c);
           apart = λ m n g h at bt cm cn e. I.apart m n g h (was m g at cm) (was n h bt cn) (clean_before m (x_apart m g at) cm) (clean_before n (x_apart n h bt) cn) e;
           acyclic = replaced-Acyclic C x t (gate-live C x gx at_x) I.acyclic (merge-free C I.acyclic I.whole x gx at_x (I.native x gx at_x) t ne joins);

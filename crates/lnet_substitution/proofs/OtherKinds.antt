@@ -21,7 +21,7 @@ merges-of_kind other kind form N o s P rep h = record {
   outputs = h.outputs;
   own = h.own;
   kept = h.kept;
-  strashed = record { native = h.strashed.native; own_form = h.strashed.own_form; apart = h.strashed.apart };
+  strashed = record { native = h.strashed.native; own_form = h.strashed.own_form; and_phase = h.strashed.and_phase; apart = h.strashed.apart };
   acyclic = h.acyclic;
   whole = record { first = h.whole.first; closed = h.whole.closed; outputs_live = h.whole.outputs_live };
 }

@@ -8,7 +8,7 @@ use Rattle.lnet_gates.specs.declared.normal.Normal.TheVariants.{Gate}
 use Rattle.lnet_gates.specs.Gates.{GateValue, KeyValue}
 use Rattle.lnet_gates.specs.Natives.{IsNativeGate}
 use Rattle.lnet_gates.specs.NormalForms.{carried}
-use Rattle.lnet_gates.specs.NormalLaws.{NormalLaws, IsNativeForm, keyed_gate}
+use Rattle.lnet_gates.specs.NormalLaws.{NormalLaws, AndsKeepPhase, IsNativeForm, keyed_gate}
 use Rattle.lnet_model.specs.Networks.{IsGate, NetworkValue, entry_at}
 use Rattle.lnet_model.specs.Along.{In, Reaches, nodes_read}
 use Rattle.lnet_model.specs.Changes.{GateAt, IsGateAt, with_entry}
@@ -23,7 +23,7 @@ use Rattle.lnet_substitution.proofs.OneReplaced.{leaves-twice}
 use Rattle.lnet_substitution.proofs.OneSet.{with_entry-outputs, here-set, leaves-set, acyclic-set, whole-set}
 use Rattle.lnet_substitution.proofs.Merging.{is-false, not-both, form-key}
 
-module _ (kind : Kind) (form : GateValue → Normal) (laws : NormalLaws (IsNativeGate kind) form) where
+module _ (kind : Kind) (form : GateValue → Normal) (laws : NormalLaws (IsNativeGate kind) form) (and_law : AndsKeepPhase (IsNativeGate kind) form) where
   module _ (N : NetworkValue) (o : ℕ) (s : Signal) (C : NetworkValue) (rep : ℕ → Signal) (dirty : ℕ → Bool) (I : IsCascading kind form N o s C rep dirty) (x : ℕ) (gx : GateValue) (at_x : GateAt C x gx) (x_dirty : dirty x ≡ true) where
     pub cascade-settle : (k : KeyValue) (phase : Bool) (later : ℕ → Bool) → form gx ≡ Gate k phase → IsUnusedKey C dirty k → IsCleanAfter x dirty later → IsCascading kind form N o s (with_entry C x (IsGate (keyed_gate k phase))) rep later
     cascade-settle k phase later is_key unused after =
@@ -49,6 +49,12 @@ module _ (kind : Kind) (form : GateValue → Normal) (laws : NormalLaws (IsNativ
           native = λ n h at. elim (eqb_tells n x) as (λ _. IsNativeGate kind h) [
             | inl p ↦ subst (IsNativeGate kind) (sym (here n h at p.1)) native_g
             | inr p ↦ I.native n h (before n h at p.1)
+          ];
+          and_phase = λ n h at is_and. elim (eqb_tells n x) as (λ _. h.phase ≡ false) [
+            | inl p ↦
+                let q = and_law gx k phase native_x is_key (sym (ap (λ (h : GateValue). h.op) (here n h at p.1)) ∙ is_and) in
+                ap (λ (h : GateValue). h.phase) (here n h at p.1) ∙ q.1 ∙ I.and_phase x gx at_x q.0
+            | inr p ↦ I.and_phase n h (before n h at p.1) is_and
           ];
           own_form = λ n h at c. elim (eqb_tells n x) as (λ _. IsOwnForm form h) [
             | inl p ↦ subst (λ (h : GateValue). form h ≡ Gate (key_of h) h.phase) (sym (here n h at p.1)) (laws.stable gx k phase native_x is_key)
@@ -80,6 +86,7 @@ cascade-ends kind form N o s C rep dirty I clean =
     let strashed : IsStrashed kind form C = record {
       native = I.native;
       own_form = λ n g at. I.own_form n g at (clean n);
+      and_phase = I.and_phase;
       apart = λ m n g h at bt e. I.apart m n g h at bt (clean m) (clean n) e;
     } in
     record {

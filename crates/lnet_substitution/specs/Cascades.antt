@@ -3,6 +3,7 @@
 use Rattle.std.specs.Prelude.{◌≡◌, ◌≢◌, ℕ, Bool, true, false, ◌⊎◌, map}
 use Rattle.lnet_gates.specs.declared.signal.Signal.{Signal}
 use Rattle.lnet_gates.specs.declared.gate.Kind.{Kind}
+use Rattle.lnet_gates.specs.declared.gate.Op.TheVariants.{And}
 use Rattle.lnet_gates.specs.declared.normal.Normal.{Normal}
 use Rattle.lnet_gates.specs.declared.normal.Normal.TheVariants.{Is, Gate}
 use Rattle.lnet_gates.specs.Gates.{GateValue, KeyValue}
@@ -38,6 +39,7 @@ pub record IsCascading (kind : Kind) (form : GateValue → Normal) (N : NetworkV
   -- dirty gates depended on o
   pub late : (n : ℕ) → dirty n ≡ true → (Reaches N n o → ⊥) → ⊥
   pub native : (n : ℕ) (g : GateValue) → GateAt C n g → IsNativeGate kind g
+  pub and_phase : (n : ℕ) (g : GateValue) → GateAt C n g → g.op ≡ And → g.phase ≡ false
   -- the others are their own normal forms, and no two of them have one key
   pub own_form : (n : ℕ) (g : GateValue) → GateAt C n g → dirty n ≡ false → IsOwnForm form g
   pub apart : (m n : ℕ) (g h : GateValue) → GateAt C m g → GateAt C n h → dirty m ≡ false → dirty n ≡ false → key_of g ≡ key_of h → m ≡ n

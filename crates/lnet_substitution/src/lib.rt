@@ -8,7 +8,7 @@ ghost use Rattle.lnet_gates.specs.declared.normal.Normal.{Normal};
 ghost use Rattle.lnet_gates.specs.declared.normal.Normal.TheVariants.{Gate};
 ghost use Rattle.lnet_gates.specs.Gates.{GateValue, KeyValue};
 ghost use Rattle.lnet_gates.specs.Natives.{IsNativeGate};
-ghost use Rattle.lnet_gates.specs.NormalLaws.{NormalLaws, keyed_gate};
+ghost use Rattle.lnet_gates.specs.NormalLaws.{NormalLaws, AndsKeepPhase, keyed_gate};
 ghost use Rattle.lnet_model.specs.Networks.{NetworkValue, IsLive, IsGate, entry_at, live_count};
 ghost use Rattle.lnet_model.specs.Along.{Acyclic, IsClosed, IsWhole, In, fanin_nodes};
 ghost use Rattle.lnet_model.specs.Values.{node_value, signal_value, network_outputs};
@@ -54,7 +54,7 @@ pub fn representatives_are_determined()
 pub fn cascades_merge()
     ensures begin { (kind : Kind) (form : GateValue → Normal) (N : NetworkValue) (o : ℕ) (s : Signal) (dirty : ℕ → Bool) → NormalLaws (IsNativeGate kind) form → CanSubstitute kind form N o s → ((n : ℕ) → dirty n ≡ true → In o (fanin_nodes (entry_at N n))) → ((n : ℕ) → In o (fanin_nodes (entry_at N n)) → dirty n ≡ true) → IsCascading kind form N o s (replaced N o s) signal_of dirty }
     ensures merge { (kind : Kind) (form : GateValue → Normal) (N : NetworkValue) (o : ℕ) (s : Signal) (C : NetworkValue) (rep : ℕ → Signal) (dirty later : ℕ → Bool) (x : ℕ) (g : GateValue) (t : Signal) → NormalLaws (IsNativeGate kind) form → CanSubstitute kind form N o s → IsCascading kind form N o s C rep dirty → GateAt C x g → dirty x ≡ true → t.node.0 ≢ x → IsLive C t.node.0 → CanMerge form C g t → IsDirtyAfter C x dirty later → IsCascading kind form N o s (replaced C x t) (λ n. redirected x t (rep n)) later }
-    ensures settle { (kind : Kind) (form : GateValue → Normal) (N : NetworkValue) (o : ℕ) (s : Signal) (C : NetworkValue) (rep : ℕ → Signal) (dirty later : ℕ → Bool) (x : ℕ) (g : GateValue) (k : KeyValue) (phase : Bool) → NormalLaws (IsNativeGate kind) form → IsCascading kind form N o s C rep dirty → GateAt C x g → dirty x ≡ true → form g ≡ Gate k phase → IsUnusedKey C dirty k → IsCleanAfter x dirty later → IsCascading kind form N o s (with_entry C x (IsGate (keyed_gate k phase))) rep later }
+    ensures settle { (kind : Kind) (form : GateValue → Normal) (N : NetworkValue) (o : ℕ) (s : Signal) (C : NetworkValue) (rep : ℕ → Signal) (dirty later : ℕ → Bool) (x : ℕ) (g : GateValue) (k : KeyValue) (phase : Bool) → NormalLaws (IsNativeGate kind) form → AndsKeepPhase (IsNativeGate kind) form → IsCascading kind form N o s C rep dirty → GateAt C x g → dirty x ≡ true → form g ≡ Gate k phase → IsUnusedKey C dirty k → IsCleanAfter x dirty later → IsCascading kind form N o s (with_entry C x (IsGate (keyed_gate k phase))) rep later }
     ensures end { (kind : Kind) (form : GateValue → Normal) (N : NetworkValue) (o : ℕ) (s : Signal) (C : NetworkValue) (rep : ℕ → Signal) (dirty : ℕ → Bool) → IsCascading kind form N o s C rep dirty → ((n : ℕ) → dirty n ≡ false) → IsMerged kind form N o s C rep }
 {}
 

@@ -1,4 +1,4 @@
--- In a network of any kind a key of an And has the phase of the gate whose form it is.
+-- In a network of any kind a key of an And is the form of an And gate alone, and has its phase.
 use Rattle.std.proofs.Common.{◌≡◌, ℕ, Bool, true, List, [], ◌∷◌, length, refl, sym, ap, ◌∙◌, subst}
 use Rattle.std.proofs.lemmas.Bool.{false≢true}
 use Rattle.lnet_gates.specs.declared.gate.Kind.{Kind}
@@ -31,8 +31,8 @@ maj_apart op e f = absurd (cc (e, f))
 lut_apart : (op : Op) (t : ℕ) → op ≡ And → op ≡ Lut t → ⊥
 lut_apart op t e f = absurd (cc (e, f))
 
-at_op : (op : Op) (g : GateValue) (k : KeyValue) (phase : Bool) → g.op ≡ op → is_native Klut op ≡ true → (((t : ℕ) → op ≡ Lut t → ⊥)) → Takes op (length g.fanins) → normal_by_op g ≡ Gate k phase → k.op ≡ And → phase ≡ g.phase
-at_op And g k phase e has no_lut takes form is = let of : IsGateOf And 2 g = record { op_is = e; count_is = takes } in and-key_phase g k phase of (sym (and_same g of) ∙ form)
+at_op : (op : Op) (g : GateValue) (k : KeyValue) (phase : Bool) → g.op ≡ op → is_native Klut op ≡ true → (((t : ℕ) → op ≡ Lut t → ⊥)) → Takes op (length g.fanins) → normal_by_op g ≡ Gate k phase → k.op ≡ And → (g.op ≡ And) × (phase ≡ g.phase)
+at_op And g k phase e has no_lut takes form is = let of : IsGateOf And 2 g = record { op_is = e; count_is = takes } in (e, and-key_phase g k phase of (sym (and_same g of) ∙ form))
 at_op Xor g k phase e has no_lut takes form is = let of : IsGateOf Xor 2 g = record { op_is = e; count_is = takes } in absurd (xor_apart k.op is (key_op Xor 2 (normal_xor g) k phase (xor_laws.native g of) (sym (xor_same g of) ∙ form)))
 at_op Maj g k phase e has no_lut takes form is = let of : IsGateOf Maj 3 g = record { op_is = e; count_is = takes } in absurd (maj_apart k.op is (key_op Maj 3 (normal_maj g) k phase (maj_laws.native g of) (sym (maj_same g of) ∙ form)))
 at_op (Lut t) g k phase e has no_lut takes form is = absurd (no_lut t refl)

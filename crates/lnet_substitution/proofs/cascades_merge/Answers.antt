@@ -11,8 +11,8 @@ returns-clause-merge c kind form N o s C rep dirty later x g t laws can I at x_d
     cascade-merge kind form laws N o s can.gate.0 can.gate.1 can.strashed.native C rep dirty I x g at x_dirty t later ne live joins after
 
 pub returns-clause-settle : goal.returns-clause-settle
-returns-clause-settle c kind form N o s C rep dirty later x g k phase laws I at x_dirty is unused after =
-    cascade-settle kind form laws N o s C rep dirty I x g at x_dirty k phase later is unused after
+returns-clause-settle c kind form N o s C rep dirty later x g k phase laws phases I at x_dirty is unused after =
+    cascade-settle kind form laws phases N o s C rep dirty I x g at x_dirty k phase later is unused after
 
 pub returns-clause-end : goal.returns-clause-end
 returns-clause-end c kind form N o s C rep dirty I clean = cascade-ends kind form N o s C rep dirty I clean

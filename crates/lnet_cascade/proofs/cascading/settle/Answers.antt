@@ -33,7 +33,7 @@ tell-requires-clause-below g c = subst (λ N. AreBelow N c.args.numbers) (sym c.
 pub returns-clause-goes_on : goal.returns-clause-goes_on
 returns-clause-goes_on g c =
     let f = c.requires.form in
-    settled-goes_on g.G.Gates.KIND g.G.Gates.form g.met.G.Gates.laws c.args.store.now.network c.live_count-live.ensures.stored c.args.dirty.now.items c.requires.begun c.args.n.0 c.requires.dirty f.0 f.1 (key_of c.args.gate) c.args.gate.phase f.2 c.set_gate-old.new.self.network c.set_gate-old.ensures.network c.requires.unused
+    settled-goes_on g.G.Gates.KIND g.G.Gates.form g.met.G.Gates.laws c.args.store.now.network c.live_count-live.ensures.stored c.args.dirty.now.items c.requires.begun c.args.n.0 c.requires.dirty f.0 f.1 (key_of c.args.gate) c.args.gate.phase f.2 c.set_gate-old.new.self.network c.set_gate-old.ensures.network g.met.G.Gates.and_phase c.requires.unused
 
 pub returns-clause-gates : goal.returns-clause-gates
 returns-clause-gates g c =

@@ -36,7 +36,7 @@ pub returns-in-None-find_clean-clause-goes_on : goal.returns-in-None-find_clean-
 returns-in-None-find_clean-clause-goes_on g c =
     let N = c.args.store.now.network in
     let at = gate-at (entry_at c.args.store.now.network c.args.n.0) c.in-Some.gate.now (sym c.in-Some.ensures) in
-    settled-goes_on g.G.Gates.KIND g.G.Gates.form g.met.G.Gates.laws N c.live_count-live.ensures.stored c.args.dirty.now.items c.requires.begun c.args.n.0 c.requires.dirty c.in-Some.gate.now at c.in-Gate.key c.in-Gate.phase (sym c.normal.ensures ∙ c.in-Gate.is) N (sym (set-same N c.args.n.0 (keyed_gate c.in-Gate.key c.in-Gate.phase) (c.stands_at.ensures.0 c.if-stands_at.true))) c.in-None-find_clean.ensures
+    settled-goes_on g.G.Gates.KIND g.G.Gates.form g.met.G.Gates.laws N c.live_count-live.ensures.stored c.args.dirty.now.items c.requires.begun c.args.n.0 c.requires.dirty c.in-Some.gate.now at c.in-Gate.key c.in-Gate.phase (sym c.normal.ensures ∙ c.in-Gate.is) N (sym (set-same N c.args.n.0 (keyed_gate c.in-Gate.key c.in-Gate.phase) (c.stands_at.ensures.0 c.if-stands_at.true))) g.met.G.Gates.and_phase c.in-None-find_clean.ensures
 
 pub returns-in-None-find_clean-clause-less : goal.returns-in-None-find_clean-clause-less
 returns-in-None-find_clean-clause-less g c =

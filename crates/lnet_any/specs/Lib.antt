@@ -1,1 +1,2 @@
 pub mod AnyNets
+pub mod Forms

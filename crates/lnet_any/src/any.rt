@@ -30,6 +30,18 @@ pub enum AnyNet {
 }
 
 impl AnyNet {
+    /// The kind. Constant time.
+    pub fn kind(&self) -> Kind
+        ensures { result ≡ (network_in self.now).kind }
+    {
+        match self {
+            AnyNet::Aig(net) => net.kind(),
+            AnyNet::Xag(net) => net.kind(),
+            AnyNet::Mig(net) => net.kind(),
+            AnyNet::Klut(net) => net.kind(),
+        }
+    }
+
     /// How many inputs there are. Constant time.
     pub fn input_count(&self) -> u32
         ensures { result ≡ length (network_in self.now).inputs }

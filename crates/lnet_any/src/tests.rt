@@ -1,7 +1,7 @@
 //! A network of any kind.
 
 use crate::AnyNet;
-use lnet_gates::{MigGates, Node};
+use lnet_gates::{Kind, MigGates, Node};
 use lnet_network::{Network, ViewId};
 use std::test::Fail;
 
@@ -9,6 +9,7 @@ use std::test::Fail;
 fn a_network_is_read(rt: HostRuntime) -> Result<(), Fail> {
     let network: Network<MigGates> = Network::new(rt.alloc())?;
     let net = AnyNet::Mig(network);
+    assert_eq!(rt; net.kind(), Kind::Mig);
     assert_eq!(rt; net.input_count(), 0);
     assert_eq!(rt; net.output_count(), 0);
     assert_eq!(rt; net.gate_count(), 0);

@@ -3,6 +3,7 @@ use Rattle.std.proofs.Common.{◌≡◌, ℕ, ◌+◌, ◌≤◌, Bool, true, fa
 use Rattle.std.specs.FinMap.{len, empty, len-empty, get-empty, len-insert}
 use Rattle.std.specs.Prelude.{cond, is_some}
 use Rattle.std.specs.Ordering.{nat_cmp}
+use Rattle.std.proofs.lemmas.List.{length-append, length-map}
 use Rattle.std.proofs.lemmas.Cmp.{nat_cmp_total}
 use Rattle.lnet_gates.specs.declared.signal.Signal.{Signal}
 use Rattle.lnet_gates.specs.declared.gate.Kind.{Kind}
@@ -25,7 +26,7 @@ use Rattle.lnet_order.specs.Orders.{order_of}
 use Rattle.lnet_order.specs.Sound.{AreDriven}
 use Rattle.lnet_order.proofs.PlaceLemmas.{contains-next}
 use Rattle.lnet_order.proofs.SoundLemmas.{order-sound}
-use Rattle.lnet_build.specs.Built.{Building, first_building, with_ports, raised, with_outputs, output_signals, unswept, numbers_needed}
+use Rattle.lnet_build.specs.Built.{Building, first_building, with_ports, raised, with_outputs, output_signals, read_as, unswept, numbers_needed}
 use Rattle.lnet_build.specs.Signals.{FitsPlace}
 use Rattle.lnet_build.proofs.StandLemmas.{places-grows}
 use Rattle.lnet_build.proofs.PortValues.{IsSound, ports-sound, ports-count, ports-known}
@@ -114,6 +115,31 @@ ports-values c circuit done b a [] h driven_done = refl
 ports-values c circuit done b a (p ∷ ps) h driven_done =
     λ i. read-value c circuit done b p.source a h (driven_done p.source.wire.0 (0, omega arith, refl)) i
     ∷ ports-values c circuit done b a ps h (λ v has. driven_done v (contains-next p.source.wire.0 v (output_wires ps) has)) i
+
+-- ---- how many inputs and outputs there are
+
+with_outputs-inputs : (N : NetworkValue) (ss : List Signal) → (with_outputs N ss).inputs ≡ N.inputs
+unfolding with_new_output
+with_outputs-inputs N [] = refl
+with_outputs-inputs N (s ∷ ss) = with_outputs-inputs (with_new_output N s) ss
+
+with_outputs-outputs : (N : NetworkValue) (ss : List Signal) → length (with_outputs N ss).outputs ≡ length N.outputs + length ss
+with_outputs-outputs N [] = omega arith
+with_outputs-outputs N (s ∷ ss) =
+    let more = with_outputs-outputs (with_new_output N s) ss in
+    let one = ap (λ (os : List Signal). length os) (added-outputs N s) ∙ length-append N.outputs (s ∷ []) in
+    omega arith
+
+-- as many as the circuit has, before the sweep
+pub unswept-ports : (kind : Kind) (form : GateValue → Normal) (c : CircuitValue) → NormalLaws (IsNativeGate kind) form → IsCircuit c → All (FitsPlace c.equations) (order_of c) → numbers_needed kind form c ≤ NUMBERS → (length (unswept kind form c).inputs ≡ length c.inputs) × (length (unswept kind form c).outputs ≡ length c.outputs)
+unswept-ports kind form c laws circuit words few =
+    let b : Building = raised kind form c in
+    let h = raised-sound kind form c laws circuit words few in
+    let ss = output_signals b.signals c.outputs in
+    let outputs = with_outputs-outputs b.network ss in
+    let none = ap (λ (os : List Signal). length os) h.sound.outputs in
+    let count = length-map c.outputs (λ (p : OutputPort). read_as b.signals p.source) in
+    (ap (λ (ns : List ℕ). length ns) (with_outputs-inputs b.network ss) ∙ h.sound.inputs, omega arith)
 
 -- the outputs have the circuit's values, before the sweep
 pub unswept-values : (kind : Kind) (form : GateValue → Normal) (c : CircuitValue) → NormalLaws (IsNativeGate kind) form → IsCircuit c → All (FitsPlace c.equations) (order_of c) → numbers_needed kind form c ≤ NUMBERS → (a : ℕ → Bool) → network_outputs (unswept kind form c) a ≡ circuit_outputs c a

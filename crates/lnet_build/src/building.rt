@@ -1,6 +1,6 @@
 //! The network of a circuit.
 
-ghost use Rattle.std.specs.Prelude.{◌≡◌, ◌<◌, ◌≤◌, [], ℕ, Bool, All, IfOk, OnOk, Err};
+ghost use Rattle.std.specs.Prelude.{◌≡◌, ◌<◌, ◌≤◌, [], ℕ, Bool, All, IfOk, OnOk, Err, length};
 ghost use Rattle.lnet_model.specs.Along.{Acyclic};
 ghost use Rattle.lnet_model.specs.Changes.{IsGateAt};
 ghost use Rattle.lnet_model.specs.Dags.{IsStored, NUMBERS};
@@ -50,6 +50,8 @@ pub fn build<G: Gates>(
     requires none { net.old.views.items ≡ [] }
     ensures network { OnOk result (IsBuilt G.KIND G.form circuit.now net.new.core.network) }
     ensures names { IfOk result (λ names. names ≡ port_names circuit.now) }
+    ensures inputs { OnOk result (length net.new.core.network.inputs ≡ length circuit.now.inputs) }
+    ensures outputs_count { OnOk result (length net.new.core.network.outputs ≡ length circuit.now.outputs) }
     ensures outputs { OnOk result ((a : ℕ → Bool) → network_outputs net.new.core.network a ≡ circuit_outputs circuit.now a) }
     ensures acyclic { OnOk result (Acyclic net.new.core.network) }
     ensures strashed { OnOk result (IsStrashed G.KIND G.form net.new.core.network) }

@@ -1,6 +1,7 @@
 //! Names by place.
 
-ghost use Rattle.std.specs.Prelude.{◌≡◌, ◌<◌, ◌^◌, length, option_map, replicate, IfOk, None};
+ghost use Rattle.std.specs.Prelude.{◌≡◌, ◌<◌, ◌^◌, length, option_map, replicate, IfOk, IfSome, None};
+ghost use Rattle.lnet_edge.specs.Names.{IsName};
 ghost use Rattle.lnet_names.specs.NameLists.{name_at};
 
 use lnet_edge::Name;
@@ -61,14 +62,16 @@ impl Names {
 
     /// The name of input `k`, counted from 0; `None` exactly where `k` is past the end or has no name. Constant time.
     pub fn input_name(&self, k: u32) -> Option<&str>
-        ensures { option_map (λ s. s.now) result ≡ name_at self.now.inputs k }
+        ensures value { option_map (λ s. s.now) result ≡ name_at self.now.inputs k }
+        ensures name { IfSome result (λ s. IsName s.now) }
     {
         text_at(&self.inputs, k)
     }
 
     /// The name of output `k`, counted from 0; `None` exactly where `k` is past the end or has no name. Constant time.
     pub fn output_name(&self, k: u32) -> Option<&str>
-        ensures { option_map (λ s. s.now) result ≡ name_at self.now.outputs k }
+        ensures value { option_map (λ s. s.now) result ≡ name_at self.now.outputs k }
+        ensures name { IfSome result (λ s. IsName s.now) }
     {
         text_at(&self.outputs, k)
     }
@@ -87,7 +90,8 @@ fn nameless(alloc: Global, count: u32) -> Result<Vec<Option<Name>>, AllocError>
 
 /// The name at place `k`, counted from 0; `None` exactly where `k` is past the end or has no name.
 fn text_at(names: &[Option<Name>], k: u32) -> Option<&str>
-    ensures { option_map (λ s. s.now) result ≡ name_at names.now k }
+    ensures value { option_map (λ s. s.now) result ≡ name_at names.now k }
+    ensures name { IfSome result (λ s. IsName s.now) }
 {
     match names.get(k as usize) {
         Some(name) => match name {

@@ -22,5 +22,6 @@ pub first-strashed : (kind : Kind) (form : GateValue → Normal) → IsStrashed 
 first-strashed kind form = record {
   native = λ n g e. absurd (no-gate n g e);
   own_form = λ n g e. absurd (no-gate n g e);
+  and_phase = λ n g e. absurd (no-gate n g e);
   apart = λ m n g h e f k. absurd (no-gate m g e);
 }

@@ -3,7 +3,8 @@ use Rattle.std.proofs.Common.{◌≡◌, ℕ, refl}
 use Rattle.lnet_gates.specs.declared.gate.Kind.{Kind}
 use Rattle.lnet_gates.specs.Gates.{GateValue}
 use Rattle.lnet_gates.specs.declared.normal.Normal.{Normal}
-use Rattle.lnet_model.specs.Networks.{NetworkValue, entry_at, gate_at, live_count}
+use Rattle.lnet_model.specs.Networks.{NetworkValue, IsLive, entry_at, gate_at, live_count}
+use Rattle.lnet_model.specs.Changes.{IsGateAt}
 use Rattle.lnet_model.specs.Along.{Reaches, over}
 use Rattle.lnet_model.specs.Dags.{AreBelow, IsStored, numbers_of}
 use Rattle.lnet_model.specs.Fanouts.{fan, references}
@@ -50,4 +51,12 @@ stored-kind kind N h = record {
 
 pub strashed-kind : (kind : Kind) (form : GateValue → Normal) (N : NetworkValue) → IsStrashed kind form N → IsStrashed kind form (of_kind kind N)
 unfolding entry_at
-strashed-kind kind form N h = record { native = h.native; own_form = h.own_form; apart = h.apart }
+strashed-kind kind form N h = record { native = h.native; own_form = h.own_form; and_phase = h.and_phase; apart = h.apart }
+
+pub kind-gate : (kind : Kind) (N : NetworkValue) (n : ℕ) → IsGateAt (of_kind kind N) n → IsGateAt N n
+unfolding entry_at
+kind-gate kind N n h = h
+
+pub kind-live : (kind : Kind) (N : NetworkValue) (n : ℕ) → IsLive (of_kind kind N) n → IsLive N n
+unfolding entry_at
+kind-live kind N n h = h

@@ -5,9 +5,10 @@ mod network;
 mod operations;
 mod outputs;
 mod reading;
+mod substituting;
 #[cfg(test)]
 mod tests;
 mod viewing;
 
-pub use network::Network;
+pub use network::{Core, Network};
 pub use viewing::ViewId;

@@ -43,6 +43,19 @@ impl<G: Gates> Model for Core<G> {
     ghost invariant = { λ c. IsStrashed G.KIND G.form c.hashed.store.network × HasRoom c.hashed };
 }
 
+impl<G: Gates> Core<G> {
+    /// Node 0 alone.
+    pub fn new(alloc: Global) -> Result<Core<G>, AllocError>
+        ensures network { IfOk result (λ c. c.network ≡ of_kind G.KIND first_network) }
+    {
+        let hashed = Hashed::new(alloc)?;
+        Ok(Core {
+            hashed,
+            kind: PhantomData,
+        })
+    }
+}
+
 /// A table of a look-up table's gate is a word: said for the proofs of the calls that make gates.
 fn word_fits(op: &Op)
     ensures { FitsWord op.now }
@@ -58,9 +71,12 @@ fn word_fits(op: &Op)
 /// A network of one kind, and views in slots.
 #[derive(Drop)]
 pub struct Network<G: Gates> {
-    pub(crate) core: Core<G>,
-    pub(crate) views: Vec<Option<Box<dyn View>>>,
-    pub(crate) visits: Vec<u64>,
+    /// The gates, the inputs and the outputs.
+    pub core: Core<G>,
+    /// The views, each in the slot of its id.
+    pub views: Vec<Option<Box<dyn View>>>,
+    /// How many calls each slot's view got.
+    pub visits: Vec<u64>,
 }
 
 impl<G: Gates> Network<G> {
@@ -69,12 +85,9 @@ impl<G: Gates> Network<G> {
         ensures network { IfOk result (λ n. n.core.network ≡ of_kind G.KIND first_network) }
         ensures views { IfOk result (λ n. n.views.items ≡ []) }
     {
-        let hashed = Hashed::new(alloc)?;
+        let core = Core::new(alloc)?;
         Ok(Network {
-            core: Core {
-                hashed,
-                kind: PhantomData,
-            },
+            core,
             views: Vec::new(alloc),
             visits: Vec::new(alloc),
         })

@@ -9,7 +9,7 @@ ghost use Rattle.lnet_model.specs.Levels.{depth as depth_of};
 ghost use Rattle.lnet_hashed.specs.Strashed.{IsStrashed};
 
 use crate::network::Network;
-use lnet_gates::{Gate, Gates, Node, Signal};
+use lnet_gates::{Gate, Gates, Kind, Node, Signal};
 use lnet_hashed::depth;
 use std::alloc::AllocError;
 
@@ -24,6 +24,16 @@ impl<G: Gates> Network<G> {
         ensures strashed { IsStrashed G.KIND G.form self.now.core.network }
     {
         self.core.hashed.store.live_count()
+    }
+
+    /// The kind. Constant time.
+    pub fn kind(&self) -> Kind
+        ensures value { result ≡ self.now.core.network.kind }
+        ensures kind { self.now.core.network.kind ≡ G.KIND }
+    {
+        // Read, so that the proof sees how the core is seen.
+        let _room = self.core.hashed.room;
+        G::KIND
     }
 
     /// Whether the number is live. Constant time.

@@ -76,10 +76,14 @@ fn move_to_shelf(shelf: &mut Vec<Box<dyn View>>, net: &mut AnyNet, id: ViewId)
 /// and those on the shelf.
 #[derive(Drop)]
 pub struct Subscriptions {
-    live: Vec<(u32, ViewSpec)>,
-    ids: Vec<ViewId>,
-    next: u32,
-    shelf: Vec<Box<dyn View>>,
+    /// The live views, each by its number and spec, ascending.
+    pub live: Vec<(u32, ViewSpec)>,
+    /// The network's ids of the live views, in the same order.
+    pub ids: Vec<ViewId>,
+    /// The number that the next view gets.
+    pub next: u32,
+    /// The views that are not live, detached.
+    pub shelf: Vec<Box<dyn View>>,
 }
 
 impl Subscriptions {

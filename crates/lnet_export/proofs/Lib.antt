@@ -1,0 +1,11 @@
+pub mod Lists
+pub mod Orders
+pub mod GateEquations
+pub mod RuleValues
+pub mod PortLemmas
+pub mod Circuits
+pub mod LevelLemmas
+pub mod PathLemmas
+pub mod RowLemmas
+pub mod ExportLemmas
+pub mod ExportedValues

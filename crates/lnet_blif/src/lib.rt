@@ -1,0 +1,14 @@
+//! Circuits read from the Berkeley Logic Interchange Format.
+#![tactic(auto)]
+
+mod laws;
+mod listing;
+mod reading;
+mod statements;
+mod tables;
+#[cfg(test)]
+mod tests;
+
+pub use laws::{lines_of_each_form, lines_of_no_form};
+pub use lnet_bliflines::ReadError;
+pub use reading::read;

@@ -1,0 +1,4 @@
+pub mod WordLemmas
+pub mod LineLengths
+pub mod Steps
+pub mod WordBytes

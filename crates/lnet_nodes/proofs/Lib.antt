@@ -1,0 +1,3 @@
+pub mod Places
+pub mod RowNumbers
+pub mod GatesAt

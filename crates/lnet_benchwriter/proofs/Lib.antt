@@ -1,0 +1,5 @@
+pub mod Places
+pub mod Uses
+pub mod RowTables
+pub mod GatesAt
+pub mod Pieces

@@ -1,0 +1,6 @@
+use Rattle.std.proofs.Common.{arith}
+use Rattle.lnet_benchwriter.proofs.GatesAt.{few_variables}
+use Rattle.lnet_benchwriter.proofs.tables.put_head.Goals as goal
+
+pub digit_count-requires : goal.digit_count-requires
+digit_count-requires c = let h = few_variables c.args.equation.now.operands.items in let e = c.requires.variables in let f = c.requires.few in omega arith

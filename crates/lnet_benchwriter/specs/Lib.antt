@@ -1,0 +1,4 @@
+pub mod Nodes
+pub mod Tables
+pub mod Texts
+pub mod Kept

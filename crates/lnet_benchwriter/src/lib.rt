@@ -1,0 +1,15 @@
+//! Circuits written in the BENCH format.
+#![tactic(auto)]
+
+mod complements;
+mod labels;
+mod lines;
+mod rows;
+mod tables;
+mod words;
+mod writing;
+
+pub use writing::write;
+
+#[cfg(test)]
+mod tests;

@@ -1,0 +1,3 @@
+pub mod Onto
+pub mod Numbered
+pub mod Steps

@@ -1,0 +1,8 @@
+use Rattle.std.proofs.Common.{◌≡◌, suc, ◌-◌, ◌+◌, arith}
+use Rattle.lnet_generate.proofs.Steps.{uses-next}
+use Rattle.lnet_generate.proofs.drawing.draw_operands.Goals as goal
+
+pub loop-place-preserved : goal.loop-place-preserved
+loop-place-preserved g c =
+    let count : c.args.count - c.loop-place.place ≡ suc (c.args.count - (c.loop-place.place + 1)) = (let h = c.loop-place-test.true in omega arith) in
+    uses-next c.loop-place.operands.items c.push.new.self.items (c.args.count - c.loop-place.place) (c.args.count - (c.loop-place.place + 1)) c.args.wires (g.R.Rng.stream c.loop-place.rng) (g.R.Rng.stream c.draw_use.new.rng) c.draw_use.result _ count c.in_ok-push.ensures.ok c.draw_use.ensures c.loop-place.invariant

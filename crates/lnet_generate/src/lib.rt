@@ -1,0 +1,10 @@
+//! Circuits generated from a number.
+#![tactic(auto)]
+
+mod drawing;
+mod generating;
+
+pub use generating::generate;
+
+#[cfg(test)]
+mod tests;

@@ -2,20 +2,18 @@
 use Rattle.std.proofs.Common.{◌≡◌, ℕ, List, [], ◌∷◌, Option, Some, None, refl, sym, ap, subst}
 use Rattle.std.specs.Prelude.{codes}
 use Rattle.std.specs.Fmt.{decimal}
-use Rattle.lnet_model.specs.declared.view_spec.ViewKind.TheVariants as kinds
+use Rattle.lnet_script.specs.declared.command.Query.TheVariants.{Level}
 use Rattle.lnet_model.specs.declared.view_spec.ViewSpec.TheVariants as views
 use Rattle.lnet_script.specs.declared.command.Command.{Command}
 use Rattle.lnet_script.specs.declared.command.Command.TheVariants.{Read, Write, View, Drop, Ask, Print, Stats, Convert}
-use Rattle.lnet_script.specs.declared.command.ReadFormat.TheVariants.{Aiger}
-use Rattle.lnet_script.specs.declared.command.WriteFormat.TheVariants.{Aag}
 use Rattle.lnet_script.specs.declared.keywords.Verb.{Verb}
 use Rattle.lnet_script.specs.declared.keywords.Verb.TheVariants as verbs
-use Rattle.lnet_script.specs.Spelling.{kind_word, Spells}
+use Rattle.lnet_script.specs.Spelling.{kind_word, read_word, write_word, Spells}
 use Rattle.lnet_script.specs.Given.{◌>>=◌}
 use Rattle.lnet_script.specs.Keywords.{verb_word, verb_of, kind_of, read_format_of, write_format_of, view_of, query_of, number_of, name_of}
 use Rattle.lnet_script.specs.Reading.{no_word, one_word, two_words, three_words, read_of, write_of, attach_of, drop_of, ask_of, convert_of, behind, command_of}
 use Rattle.lnet_script.proofs.Digits.{number_is, number_again}
-use Rattle.lnet_script.proofs.KeywordLaws.{verb_is, kind_is, kind_again, word_is, name_of_is, name_again}
+use Rattle.lnet_script.proofs.KeywordLaws.{verb_is, kind_is, kind_again, read_format_is, read_format_again, write_format_is, write_format_again, word_is, name_of_is, name_again}
 
 bind_some : {A B : Type 0} (r : Option A) (f : A → Option B) (y : B) → (r >>= f) ≡ Some y → (x : A) × (r ≡ Some x) × (f x ≡ Some y)
 bind_some (Some x) f y e = (x, refl, e)
@@ -67,12 +65,12 @@ read_is ws c e =
     let f = bind_some (read_format_of w.0.0) (λ format. kind_of w.0.2 >>= λ kind. name_of w.0.1 >>= λ name. Some (Read format name kind)) c w.2 in
     let k = bind_some (kind_of w.0.2) (λ kind. name_of w.0.1 >>= λ name. Some (Read f.0 name kind)) c f.2 in
     let n = bind_some (name_of w.0.1) (λ name. Some (Read f.0 name k.0)) c k.2 in
-    let format = word_is (codes "aiger") Aiger w.0.0 f.0 f.1 in
+    let format = read_format_is w.0.0 f.0 f.1 in
     let kind = kind_is w.0.2 k.0 k.1 in
     let name = name_of_is w.0.1 n.0 n.1 in
     let same : Read f.0 n.0 k.0 ≡ c = some_is (Read f.0 n.0 k.0) c n.2 in
     subst (λ (d : Command). Spells (codes "read" ∷ ws) d) same
-    (subst (λ f. Spells (codes "read" ∷ ws) (Read f n.0 k.0)) format.1 (name.1, three_as (codes "read") ws w.0 (codes "aiger") n.0 (kind_word k.0) (three_left ws w.0 w.1) format.0 name.0 kind))
+    (name.1, three_as (codes "read") ws w.0 (read_word f.0) n.0 (kind_word k.0) (three_left ws w.0 w.1) format name.0 kind)
 
 write_is : (ws : List (List ℕ)) (c : Command) → write_of ws ≡ Some c → Spells (codes "write" ∷ ws) c
 unfolding write_of
@@ -80,11 +78,11 @@ write_is ws c e =
     let w = bind_some (two_words ws) (λ w. write_format_of w.0 >>= λ format. name_of w.1 >>= λ name. Some (Write format name)) c e in
     let f = bind_some (write_format_of w.0.0) (λ format. name_of w.0.1 >>= λ name. Some (Write format name)) c w.2 in
     let n = bind_some (name_of w.0.1) (λ name. Some (Write f.0 name)) c f.2 in
-    let format = word_is (codes "aag") Aag w.0.0 f.0 f.1 in
+    let format = write_format_is w.0.0 f.0 f.1 in
     let name = name_of_is w.0.1 n.0 n.1 in
     let same : Write f.0 n.0 ≡ c = some_is (Write f.0 n.0) c n.2 in
     subst (λ (d : Command). Spells (codes "write" ∷ ws) d) same
-    (subst (λ f. Spells (codes "write" ∷ ws) (Write f n.0)) format.1 (name.1, two_as (codes "write") ws w.0 (codes "aag") n.0 (two_left ws w.0 w.1) format.0 name.0))
+    (name.1, two_as (codes "write") ws w.0 (write_word f.0) n.0 (two_left ws w.0 w.1) format name.0)
 
 attach_is : (ws : List (List ℕ)) (c : Command) → attach_of ws ≡ Some c → Spells (codes "view" ∷ ws) c
 unfolding attach_of
@@ -113,7 +111,7 @@ ask_is ws c e =
     let q = bind_some (query_of w.0.1) (λ query. number_of w.0.2 >>= λ node. Some (Ask v.0 query node)) c v.2 in
     let n = bind_some (number_of w.0.2) (λ node. Some (Ask v.0 q.0 node)) c q.2 in
     let view = number_is w.0.0 v.0 v.1 in
-    let query = word_is (codes "level") kinds.Depth w.0.1 q.0 q.1 in
+    let query = word_is (codes "level") Level w.0.1 q.0 q.1 in
     let node = number_is w.0.2 n.0 n.1 in
     let same : Ask v.0 q.0 n.0 ≡ c = some_is (Ask v.0 q.0 n.0) c n.2 in
     subst (λ (d : Command). Spells (codes "ask" ∷ ws) d) same
@@ -154,15 +152,13 @@ command_is (w ∷ ws) c e =
 
 pub command_again : (words : List (List ℕ)) (c : Command) → Spells words c → command_of words ≡ Some c
 unfolding command_of read_of write_of attach_of drop_of ask_of convert_of
-command_again words (Read Aiger name kind) is = rw is.1 (rw (kind_again kind, name_again name is.0) refl)
-command_again words (Write Aag name) is = rw is.1 (rw (name_again name is.0) refl)
+command_again words (Read format name kind) is = rw is.1 (rw (read_format_again format, kind_again kind, name_again name is.0) refl)
+command_again words (Write format name) is = rw is.1 (rw (write_format_again format, name_again name is.0) refl)
 command_again words (View views.Depth) is = rw is refl
 command_again words (View views.Fanout) is = absurd is
 command_again words (View (views.Cuts rule)) is = absurd is
 command_again words (Drop v) is = rw is.1 (rw (number_again v is.0) refl)
-command_again words (Ask v kinds.Depth node) is = rw is.2 (rw (number_again v is.0, number_again node is.1) refl)
-command_again words (Ask v kinds.Fanout node) is = absurd is
-command_again words (Ask v kinds.Cuts node) is = absurd is
+command_again words (Ask v Level node) is = rw is.2 (rw (number_again v is.0, number_again node is.1) refl)
 command_again words Print is = rw is refl
 command_again words Stats is = rw is refl
 command_again words (Convert kind) is = rw is (rw (kind_again kind) refl)

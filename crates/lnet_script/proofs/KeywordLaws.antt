@@ -8,9 +8,13 @@ use Rattle.lnet_gates.specs.declared.gate.Kind.{Kind}
 use Rattle.lnet_gates.specs.declared.gate.Kind.TheVariants.{Aig, Xag, Mig, Klut}
 use Rattle.lnet_script.specs.declared.keywords.Verb.{Verb}
 use Rattle.lnet_script.specs.declared.keywords.Verb.TheVariants as verbs
-use Rattle.lnet_script.specs.Spelling.{kind_word}
+use Rattle.lnet_script.specs.declared.command.ReadFormat.{ReadFormat}
+use Rattle.lnet_script.specs.declared.command.ReadFormat.TheVariants as reads
+use Rattle.lnet_script.specs.declared.command.WriteFormat.{WriteFormat}
+use Rattle.lnet_script.specs.declared.command.WriteFormat.TheVariants as writes
+use Rattle.lnet_script.specs.Spelling.{kind_word, read_word, write_word}
 use Rattle.lnet_script.specs.Pieces.{is_word}
-use Rattle.lnet_script.specs.Keywords.{verb_word, verb_of, kind_of, if_word, name_of}
+use Rattle.lnet_script.specs.Keywords.{verb_word, verb_of, kind_of, read_format_of, write_format_of, if_word, name_of}
 
 some_is : {A : Type 0} (x y : A) → Some x ≡ Some y → x ≡ y
 some_is x y e = cc
@@ -44,6 +48,20 @@ kind_again Aig = refl
 kind_again Xag = refl
 kind_again Mig = refl
 kind_again Klut = refl
+
+pub read_format_is : (word : List ℕ) (f : ReadFormat) → read_format_of word ≡ Some f → word ≡ read_word f
+read_format_is word f e = sym ((bytes_eq-Decides (read_word f) word).0 (found_passes (λ f. bytes_eq (read_word f) word) (reads.Aiger ∷ reads.Bench ∷ []) f e))
+
+pub read_format_again : (f : ReadFormat) → read_format_of (read_word f) ≡ Some f
+read_format_again reads.Aiger = refl
+read_format_again reads.Bench = refl
+
+pub write_format_is : (word : List ℕ) (f : WriteFormat) → write_format_of word ≡ Some f → word ≡ write_word f
+write_format_is word f e = sym ((bytes_eq-Decides (write_word f) word).0 (found_passes (λ f. bytes_eq (write_word f) word) (writes.Aag ∷ writes.Aig ∷ []) f e))
+
+pub write_format_again : (f : WriteFormat) → write_format_of (write_word f) ≡ Some f
+write_format_again writes.Aag = refl
+write_format_again writes.Aig = refl
 
 pub word_is : {A : Type 0} (text : List ℕ) (x : A) (word : List ℕ) (y : A) → if_word text x word ≡ Some y → (word ≡ text) × (x ≡ y)
 word_is text x word y e =

@@ -18,7 +18,7 @@ read cs = Ok cs
 abbrev bad : ℕ → Result (List Command) ℕ
 bad line = Err line
 
-ok_is : (x y : List Command) → read x ≡ read y → x ≡ y
+pub ok_is : (x y : List Command) → read x ≡ read y → x ≡ y
 ok_is x y e = cc
 
 err_is : (x y : ℕ) → bad x ≡ bad y → x ≡ y

@@ -4,17 +4,17 @@ use Rattle.std.specs.Str.{bytes_eq, all_ascii_digits}
 use Rattle.std.specs.Str.Parse.{digits_value}
 use Rattle.lnet_gates.specs.declared.gate.Kind.{Kind}
 use Rattle.lnet_gates.specs.declared.gate.Kind.TheVariants.{Aig, Xag, Mig, Klut}
-use Rattle.lnet_model.specs.declared.view_spec.ViewKind.{ViewKind}
-use Rattle.lnet_model.specs.declared.view_spec.ViewKind.TheVariants as kinds
+use Rattle.lnet_script.specs.declared.command.Query.{Query}
+use Rattle.lnet_script.specs.declared.command.Query.TheVariants.{Level}
 use Rattle.lnet_model.specs.declared.view_spec.ViewSpec.{ViewSpec}
 use Rattle.lnet_model.specs.declared.view_spec.ViewSpec.TheVariants as views
 use Rattle.lnet_script.specs.declared.command.ReadFormat.{ReadFormat}
-use Rattle.lnet_script.specs.declared.command.ReadFormat.TheVariants.{Aiger}
+use Rattle.lnet_script.specs.declared.command.ReadFormat.TheVariants as reads
 use Rattle.lnet_script.specs.declared.command.WriteFormat.{WriteFormat}
-use Rattle.lnet_script.specs.declared.command.WriteFormat.TheVariants.{Aag}
+use Rattle.lnet_script.specs.declared.command.WriteFormat.TheVariants as writes
 use Rattle.lnet_script.specs.declared.keywords.Verb.{Verb}
 use Rattle.lnet_script.specs.declared.keywords.Verb.TheVariants as verbs
-use Rattle.lnet_script.specs.Spelling.{kind_word}
+use Rattle.lnet_script.specs.Spelling.{kind_word, read_word, write_word}
 use Rattle.lnet_script.specs.Pieces.{is_word}
 
 -- the first word of a command
@@ -40,18 +40,18 @@ kind_of word = find (λ k. bytes_eq (kind_word k) word) (Aig ∷ Xag ∷ Mig ∷
 abbrev pub if_word : {A : Type 0} → List ℕ → A → List ℕ → Option A
 if_word text x word = if bytes_eq text word then Some x else None
 
--- the formats, the views of one word, and the kinds of views that answer questions
+-- the formats, the views of one word, and what views are asked for
 abbrev pub read_format_of : List ℕ → Option ReadFormat
-read_format_of word = if_word (codes "aiger") Aiger word
+read_format_of word = find (λ f. bytes_eq (read_word f) word) (reads.Aiger ∷ reads.Bench ∷ [])
 
 abbrev pub write_format_of : List ℕ → Option WriteFormat
-write_format_of word = if_word (codes "aag") Aag word
+write_format_of word = find (λ f. bytes_eq (write_word f) word) (writes.Aag ∷ writes.Aig ∷ [])
 
 abbrev pub view_of : List ℕ → Option ViewSpec
 view_of word = if_word (codes "depth") views.Depth word
 
-abbrev pub query_of : List ℕ → Option ViewKind
-query_of word = if_word (codes "level") kinds.Depth word
+abbrev pub query_of : List ℕ → Option Query
+query_of word = if_word (codes "level") Level word
 
 -- digits without a leading zero, for a number below 2 ^ 32
 abbrev pub is_numeral : List ℕ → Bool

@@ -3,14 +3,14 @@ use Rattle.std.specs.Prelude.{◌≡◌, ℕ, ◌<◌, ◌^◌, List, [], ◌∷
 use Rattle.std.specs.Fmt.{decimal}
 use Rattle.lnet_gates.specs.declared.gate.Kind.{Kind}
 use Rattle.lnet_gates.specs.declared.gate.Kind.TheVariants.{Aig, Xag, Mig, Klut}
-use Rattle.lnet_model.specs.declared.view_spec.ViewKind.TheVariants as kinds
 use Rattle.lnet_model.specs.declared.view_spec.ViewSpec.TheVariants as views
 use Rattle.lnet_script.specs.declared.command.Command.{Command}
 use Rattle.lnet_script.specs.declared.command.Command.TheVariants.{Read, Write, View, Drop, Ask, Print, Stats, Convert}
+use Rattle.lnet_script.specs.declared.command.Query.TheVariants.{Level}
 use Rattle.lnet_script.specs.declared.command.ReadFormat.{ReadFormat}
-use Rattle.lnet_script.specs.declared.command.ReadFormat.TheVariants.{Aiger}
+use Rattle.lnet_script.specs.declared.command.ReadFormat.TheVariants as reads
 use Rattle.lnet_script.specs.declared.command.WriteFormat.{WriteFormat}
-use Rattle.lnet_script.specs.declared.command.WriteFormat.TheVariants.{Aag}
+use Rattle.lnet_script.specs.declared.command.WriteFormat.TheVariants as writes
 use Rattle.lnet_script.specs.Pieces.{is_word}
 
 -- the word of a kind of networks
@@ -22,11 +22,13 @@ kind_word Klut = codes "klut"
 
 -- the word of a format that is read
 abbrev pub read_word : ReadFormat → List ℕ
-read_word Aiger = codes "aiger"
+read_word reads.Aiger = codes "aiger"
+read_word reads.Bench = codes "bench"
 
 -- the word of a format that is written
 abbrev pub write_word : WriteFormat → List ℕ
-write_word Aag = codes "aag"
+write_word writes.Aag = codes "aag"
+write_word writes.Aig = codes "aig"
 
 -- A command's words: those of its syntax in their order. A name is a word, and a number is its decimal digits, below
 -- 2 ^ 32. Commands and views that have no line here have no words.
@@ -36,8 +38,7 @@ Spells words (Write format name) = IsTrue (is_word name) × (words ≡ codes "wr
 Spells words (View views.Depth) = words ≡ codes "view" ∷ codes "depth" ∷ []
 Spells words (View _) = ⊥
 Spells words (Drop v) = (v < 2 ^ 32) × (words ≡ codes "drop" ∷ decimal v ∷ [])
-Spells words (Ask v kinds.Depth node) = (v < 2 ^ 32) × (node < 2 ^ 32) × (words ≡ codes "ask" ∷ decimal v ∷ codes "level" ∷ decimal node ∷ [])
-Spells words (Ask v _ node) = ⊥
+Spells words (Ask v Level node) = (v < 2 ^ 32) × (node < 2 ^ 32) × (words ≡ codes "ask" ∷ decimal v ∷ codes "level" ∷ decimal node ∷ [])
 Spells words Print = words ≡ codes "print" ∷ []
 Spells words Stats = words ≡ codes "stats" ∷ []
 Spells words (Convert kind) = words ≡ codes "convert" ∷ kind_word kind ∷ []

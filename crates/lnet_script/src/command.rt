@@ -2,13 +2,15 @@
 
 use lnet_edge::Name;
 use lnet_gates::Kind;
-use lnet_model::{ViewKind, ViewSpec};
+use lnet_model::ViewSpec;
 
 /// The formats that are read.
 #[derive(Clone, Copy, Debug, PartialEq, Eq)]
 pub enum ReadFormat {
-    /// `aiger`: AIGER.
+    /// `aiger`: AIGER, ASCII or binary.
     Aiger,
+    /// `bench`: BENCH.
+    Bench,
 }
 
 /// The formats that are written.
@@ -16,6 +18,15 @@ pub enum ReadFormat {
 pub enum WriteFormat {
     /// `aag`: ASCII AIGER.
     Aag,
+    /// `aig`: binary AIGER.
+    Aig,
+}
+
+/// What a view is asked for a node.
+#[derive(Clone, Copy, Debug, PartialEq, Eq)]
+pub enum Query {
+    /// `level`: how many gates the longest path from the node towards the inputs has, of a depth view.
+    Level,
 }
 
 /// A command. Its fields are the words of its syntax in their order.
@@ -29,8 +40,8 @@ pub enum Command {
     View(ViewSpec),
     /// `drop V`: puts the view back on the shelf.
     Drop(u32),
-    /// `ask V level NODE`: asks the view for the node's level.
-    Ask(u32, ViewKind, u32),
+    /// `ask V level NODE`: asks the live view for the node's level.
+    Ask(u32, Query, u32),
     /// `print`: prints the network.
     Print,
     /// `stats`: prints the counts of the network.

@@ -3,10 +3,10 @@
 ghost use Rattle.lnet_script.specs.Given.{Gives};
 ghost use Rattle.lnet_script.specs.Keywords.{verb_of, kind_of, read_format_of, write_format_of, view_of, query_of};
 
-use crate::command::{ReadFormat, WriteFormat};
+use crate::command::{Query, ReadFormat, WriteFormat};
 use crate::refusal::Refusal;
 use lnet_gates::Kind;
-use lnet_model::{ViewKind, ViewSpec};
+use lnet_model::ViewSpec;
 
 /// The first word of a command.
 #[derive(Clone, Copy)]
@@ -57,6 +57,7 @@ pub(crate) fn read_format_named(word: &[u8]) -> Result<ReadFormat, Refusal>
 {
     match word {
         b"aiger" => Ok(ReadFormat::Aiger),
+        b"bench" => Ok(ReadFormat::Bench),
         _ => Err(Refusal::NoCommand),
     }
 }
@@ -67,6 +68,7 @@ pub(crate) fn write_format_named(word: &[u8]) -> Result<WriteFormat, Refusal>
 {
     match word {
         b"aag" => Ok(WriteFormat::Aag),
+        b"aig" => Ok(WriteFormat::Aig),
         _ => Err(Refusal::NoCommand),
     }
 }
@@ -81,12 +83,12 @@ pub(crate) fn view_named(word: &[u8]) -> Result<ViewSpec, Refusal>
     }
 }
 
-/// The kind of the views that answer the question.
-pub(crate) fn query_named(word: &[u8]) -> Result<ViewKind, Refusal>
+/// What a view is asked for.
+pub(crate) fn query_named(word: &[u8]) -> Result<Query, Refusal>
     ensures { Gives (λ k. k) result (query_of word.now) }
 {
     match word {
-        b"level" => Ok(ViewKind::Depth),
+        b"level" => Ok(Query::Level),
         _ => Err(Refusal::NoCommand),
     }
 }

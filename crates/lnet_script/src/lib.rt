@@ -9,7 +9,7 @@ mod refusal;
 mod script;
 mod words;
 
-pub use command::{Command, ReadFormat, WriteFormat};
+pub use command::{Command, Query, ReadFormat, WriteFormat};
 pub use laws::{scripts_by_their_pieces, words_spell_one_command};
 pub use script::{ScriptError, parse_script};
 
@@ -27,7 +27,9 @@ mod tests {
         for command in commands {
             text.push_str(match command {
                 Command::Read(ReadFormat::Aiger, _, _) => "r",
+                Command::Read(ReadFormat::Bench, _, _) => "b",
                 Command::Write(WriteFormat::Aag, _) => "w",
+                Command::Write(WriteFormat::Aig, _) => "W",
                 Command::View(_) => "v",
                 Command::Drop(_) => "d",
                 Command::Ask(_, _, _) => "a",
@@ -51,6 +53,7 @@ mod tests {
             ),
             ("view depth;ask 1 level 4\r\n drop\t4294967295 ", "vad"),
             ("print; stats # ; frob\nconvert klut", "psc"),
+            ("read bench c.bench xag;write aig c.aig", "bW"),
         ] {
             let commands = parse_script(rt.alloc(), script.as_bytes());
             let Ok(commands) = commands else {

@@ -2,6 +2,8 @@
 
 use lnet_edge::{MemoryFiles, MemorySink};
 use lnet_session::{Kit, run};
+use lnet_store::View;
+use lnet_views::DepthView;
 use std::alloc::{AllocError, Global};
 use std::process::Abort;
 use std::test::Fail;
@@ -25,7 +27,7 @@ fn owned(alloc: Global, words: &[&str]) -> Result<Vec<String>, AllocError> {
     Ok(owned)
 }
 
-/// Runs the row's words over the files, with a sink whose puts of these numbers fail, and compares what comes.
+/// Runs the row's words over the files and two depth views, with a sink whose puts of these numbers fail, and compares what comes.
 fn check<R: Abort>(
     rt: &R,
     alloc: Global,
@@ -35,7 +37,12 @@ fn check<R: Abort>(
 ) -> Result<(), AllocError> {
     let mut out = MemorySink::new(alloc, failing_puts);
     let words = owned(alloc, row.words)?;
-    let outcome = run(alloc, &words, files, &mut out, Kit {});
+    let first: Box<dyn View> = Box::new(alloc, DepthView::new(alloc)?)?;
+    let second: Box<dyn View> = Box::new(alloc, DepthView::new(alloc)?)?;
+    let mut views = Vec::new(alloc);
+    views.push(first)?;
+    views.push(second)?;
+    let outcome = run(alloc, &words, files, &mut out, Kit { views });
     assert_eq!(rt; out.written(), row.transcript.as_bytes());
     assert_eq!(rt; outcome.status, row.status);
     Ok(())
@@ -68,11 +75,55 @@ fn reads_and_writes(rt: HostRuntime) -> Result<(), Fail> {
     Ok(())
 }
 
-/// Commands that are not met, and words and scripts that are refused, over a malformed file and a good one.
-const ANSWERS: [Row; 11] = [
+/// A network of two gates, of inputs 1 and 2, complemented here and there.
+const TWO: &[u8] = b"aag 4 2 0 1 2\n2\n4\n9\n6 4 2\n8 7 3\n";
+
+/// Views that are attached, asked and put back; networks of four kinds; commands that are not met; and words and scripts that are
+/// refused.
+const ANSWERS: [Row; 15] = [
+    Row {
+        words: &[
+            "lognet",
+            "read aiger n.aag aig; view depth; ask 1 level 4; drop 1; ask 1 level 4; view depth; view depth; view depth; stats",
+        ],
+        transcript: "network aig inputs 2 outputs 1 gates 2\nview 1 depth\nlevel 4 2\ndropped 1\nunmet 5 NoView\nview 2 depth\nview 3 depth\nunmet 8 ShelfEmpty\nstats aig inputs 2 outputs 1 gates 2 depth 2\n",
+        status: 1,
+    },
+    Row {
+        words: &[
+            "lognet",
+            "read aiger n.aag xag; print; convert mig; print",
+        ],
+        transcript: "network xag inputs 2 outputs 1 gates 2\nnode 0 false\nnode 1 input 0\nnode 2 input 1\nnode 3 and 1 2\nnode 4 and !1 !3\noutput 0 !4\nnetwork mig inputs 2 outputs 1 gates 2\nnode 0 false\nnode 1 input 0\nnode 2 input 1\nnode 3 maj 0 1 2\nnode 4 maj !0 1 3\noutput 0 4\n",
+        status: 0,
+    },
+    Row {
+        words: &[
+            "lognet",
+            "view depth; drop 1; ask 1 level 0; print; stats; convert mig; write aag x; read aiger n.aag klut; write aag x; view depth; ask 1 level 9; drop 2; read aiger n.aag aig; ask 1 level 4; view depth; ask 2 level 3",
+        ],
+        transcript: "unmet 1 NoNetwork\nunmet 2 NoNetwork\nunmet 3 NoNetwork\nunmet 4 NoNetwork\nunmet 5 NoNetwork\nunmet 6 NoNetwork\nunmet 7 NoNetwork\nnetwork klut inputs 2 outputs 1 gates 2\nunmet 9 WrongKind\nview 1 depth\nunmet 11 NoNode\nunmet 12 NoView\nnetwork aig inputs 2 outputs 1 gates 2\nunmet 14 NoView\nview 2 depth\nlevel 3 1\n",
+        status: 1,
+    },
+    Row {
+        words: &[
+            "lognet",
+            "read aiger n.aag mig # first\n convert klut;convert aig;\twrite aag x ;\r\n; convert xag",
+        ],
+        transcript: "network mig inputs 2 outputs 1 gates 2\nnetwork klut inputs 2 outputs 1 gates 2\nnetwork aig inputs 2 outputs 1 gates 2\nwrote 32\nnetwork xag inputs 2 outputs 1 gates 2\n",
+        status: 0,
+    },
+    Row {
+        words: &[
+            "lognet",
+            "read bench y.bench aig; print; write aig x; read bench one.aag mig",
+        ],
+        transcript: "network aig inputs 2 outputs 1 gates 1\nnode 0 false\nnode 1 input 0\nnode 2 input 1\nnode 3 and 1 2\noutput 0 !3\nwrote 33\nunmet 4 Malformed 1 Syntax\n",
+        status: 1,
+    },
     Row {
         words: &["lognet", "read aiger no.aag aig; write aag x"],
-        transcript: "unmet 1 Malformed 0 Unbuilt\nunmet 2 NoNetwork\n",
+        transcript: "unmet 1 Malformed 2 Missing\nunmet 2 NoNetwork\n",
         status: 1,
     },
     Row {
@@ -80,7 +131,7 @@ const ANSWERS: [Row; 11] = [
             "lognet",
             "read aiger one.aag aig; read aiger no.aag aig; write aag x",
         ],
-        transcript: "network aig inputs 0 outputs 1 gates 0\nunmet 2 Malformed 0 Unbuilt\nwrote 16\n",
+        transcript: "network aig inputs 0 outputs 1 gates 0\nunmet 2 Malformed 2 Missing\nwrote 16\n",
         status: 1,
     },
     Row {
@@ -95,23 +146,18 @@ const ANSWERS: [Row; 11] = [
     },
     Row {
         words: &["lognet", ""],
-        transcript: "error script 1\n",
+        transcript: "",
+        status: 0,
+    },
+    Row {
+        words: &["lognet", "read aiger one.aag aig # first\n\twrite aag x ;\nfrob"],
+        transcript: "error script 3\n",
         status: 2,
     },
     Row {
-        words: &["lognet", "read aiger one.aag aig;write aag x"],
-        transcript: "error script 1\n",
-        status: 2,
-    },
-    Row {
-        words: &["lognet", "read aiger one.aag  aig"],
-        transcript: "error script 1\n",
-        status: 2,
-    },
-    Row {
-        words: &["lognet", "write aag x; "],
-        transcript: "error script 1\n",
-        status: 2,
+        words: &["lognet", "read aiger one.aag aig # first\n\twrite aag x ;"],
+        transcript: "network aig inputs 0 outputs 1 gates 0\nwrote 16\n",
+        status: 0,
     },
     Row {
         words: &["lognet"],
@@ -136,7 +182,9 @@ fn answers(rt: HostRuntime) -> Result<(), Fail> {
     for row in &ANSWERS {
         let mut files = MemoryFiles::new(alloc, Vec::new(alloc));
         files.set("one.aag", ONE)?;
-        files.set("no.aag", b"aag 0 0 0 0 0")?;
+        files.set("no.aag", b"aag 0 0 0 1 0")?;
+        files.set("n.aag", TWO)?;
+        files.set("y.bench", b"INPUT(a)\nINPUT(b)\nOUTPUT(y)\ny = NAND(a, b)\n")?;
         check(&rt, alloc, row, &mut files, Vec::new(alloc))?;
     }
     Ok(())
@@ -179,7 +227,8 @@ fn limits(rt: HostRuntime) -> Result<(), Fail> {
     let mut out = MemorySink::new(alloc, Vec::new(alloc));
     let mut words = owned(alloc, &["lognet"])?;
     words.push("x".repeat(alloc, 1_048_577)?)?;
-    let outcome = run(alloc, &words, &mut files, &mut out, Kit {});
+    let views = Vec::new(alloc);
+    let outcome = run(alloc, &words, &mut files, &mut out, Kit { views });
     assert_eq!(rt; out.written(), b"error script 0\n".as_slice());
     assert_eq!(rt; outcome.status, 2);
     let long = vec![in alloc; b'1'; 67_108_865]?;

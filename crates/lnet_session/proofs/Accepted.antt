@@ -1,13 +1,18 @@
 -- A script that was accepted and run.
-use Rattle.std.proofs.Common.{◌≡◌, ℕ, ◌≤◌, List, length, Option, Some, None, ap, ◌∙◌, sym, subst}
+use Rattle.std.proofs.Common.{◌≡◌, ℕ, ◌≤◌, All, List, [], ◌∷◌, length, Option, Some, None, ap, ◌∙◌, sym, subst}
 use Rattle.lnet_edge.specs.Outside.{Contents, Call}
 use Rattle.lnet_edge.specs.Circuits.{CircuitValue}
-use Rattle.lnet_model.specs.Networks.{NetworkValue}
-use Rattle.lnet_session.specs.declared.command.Command.{Command}
+use Rattle.lnet_script.specs.declared.command.Command.{Command}
 use Rattle.lnet_session.specs.declared.running.RunEnd.{RunEnd}
 use Rattle.lnet_session.specs.declared.top.Ending.{Ending}
-use Rattle.lnet_session.specs.Scripts.{IsScript, script_limit}
-use Rattle.lnet_session.specs.Steps.{World}
+use Rattle.std.proofs.lemmas.List.Elements.{All-nil, All-cons}
+use Rattle.lnet_model.specs.declared.view_spec.ViewSpec.TheVariants as views
+use Rattle.lnet_script.specs.declared.command.Command.TheVariants as command
+use Rattle.lnet_script.specs.Pieces.{Piece}
+use Rattle.lnet_script.specs.Spelling.{Spells}
+use Rattle.lnet_script.specs.Scripts.{AreSpelled, IsScript, script_limit}
+use Rattle.lnet_session.specs.States.{State}
+use Rattle.lnet_session.specs.Steps.{IsCommand, World}
 use Rattle.lnet_session.specs.Runs.{RunsTo}
 use Rattle.lnet_session.specs.Ends.{script_of, RanScript, EndsAs}
 
@@ -25,9 +30,28 @@ ran_script words word bytes parsed commands end old new at same found is runs = 
   },
 )
 
--- a run that began without a network
-pub from_nothing : (words : List (List ℕ)) (end : Ending) (network : Option NetworkValue) (contents : Option Contents) (written : Option (List ℕ)) (file_faults : ℕ) (last : Option Call) (sink_faults : ℕ) (new : World) → network ≡ None
-    → ((origin : Option CircuitValue) × EndsAs words end (record { state = record { network = network }; contents = contents; written = written; file_faults = file_faults; last = last; sink_faults = sink_faults }) new origin)
-    → (origin : Option CircuitValue) × EndsAs words end (record { state = record { network = None }; contents = contents; written = written; file_faults = file_faults; last = last; sink_faults = sink_faults }) new origin
-from_nothing words end network contents written file_faults last sink_faults new none e =
-    (e.0, subst (λ (n : Option NetworkValue). EndsAs words end (record { state = record { network = n }; contents = contents; written = written; file_faults = file_faults; last = last; sink_faults = sink_faults }) new e.0) none e.1)
+-- a run from the state of a new session
+pub from_start : (words : List (List ℕ)) (end : Ending) (state start : State) (contents : Option Contents) (written : Option (List ℕ)) (file_faults : ℕ) (last : Option Call) (sink_faults : ℕ) (new : World) → state ≡ start
+    → ((origin : Option CircuitValue) × EndsAs words end (record { state = state; contents = contents; written = written; file_faults = file_faults; last = last; sink_faults = sink_faults }) new origin)
+    → (origin : Option CircuitValue) × EndsAs words end (record { state = start; contents = contents; written = written; file_faults = file_faults; last = last; sink_faults = sink_faults }) new origin
+from_start words end state start contents written file_faults last sink_faults new same e =
+    (e.0, subst (λ (s : State). EndsAs words end (record { state = s; contents = contents; written = written; file_faults = file_faults; last = last; sink_faults = sink_faults }) new e.0) same e.1)
+
+-- what is spelled is within the limits of commands
+spelled-are : (c : Command) (words : List (List ℕ)) → Spells words c → IsCommand c
+spelled-are (command.Read format name kind) words h = tt
+spelled-are (command.Write format name) words h = tt
+spelled-are (command.View views.Depth) words h = tt
+spelled-are (command.View views.Fanout) words h = absurd h
+spelled-are (command.View (views.Cuts rule)) words h = absurd h
+spelled-are (command.Drop v) words h = tt
+spelled-are (command.Ask v query n) words h = tt
+spelled-are command.Print words h = tt
+spelled-are command.Stats words h = tt
+spelled-are (command.Convert kind) words h = tt
+
+pub commands-are : (ps : List Piece) (cs : List Command) → AreSpelled ps cs → All IsCommand cs
+commands-are [] [] h = All-nil IsCommand
+commands-are [] (c ∷ cs) h = absurd h
+commands-are (p ∷ ps) [] h = absurd h
+commands-are (p ∷ ps) (c ∷ cs) h = All-cons IsCommand c cs (spelled-are c p.words h.0) (commands-are ps cs h.1)

@@ -4,15 +4,15 @@ use Rattle.std.specs.Prelude.{◌||◌}
 use Rattle.std.proofs.lemmas.List.{append-nil, length-take-le, take_more, take_all}
 use Rattle.std.proofs.lemmas.Option.{slice_get_read}
 use Rattle.lnet_edge.specs.Circuits.{CircuitValue}
-use Rattle.lnet_session.specs.declared.command.Command.{Command}
-use Rattle.lnet_session.specs.declared.session.StepEnd.{StepEnd}
-use Rattle.lnet_session.specs.declared.session.StepEnd.TheVariants as ends
-use Rattle.lnet_session.specs.declared.reply.Reply.{Reply}
-use Rattle.lnet_session.specs.declared.reply.Reply.TheVariants as reply
-use Rattle.lnet_session.specs.declared.reply.Unmet.{Unmet}
-use Rattle.lnet_session.specs.Texts.{reply_text}
+use Rattle.lnet_script.specs.declared.command.Command.{Command}
+use Rattle.lnet_session.specs.declared.stepping.StepEnd.{StepEnd}
+use Rattle.lnet_session.specs.declared.stepping.StepEnd.TheVariants as ends
+use Rattle.lnet_replies.specs.declared.reply.Reply.{Reply}
+use Rattle.lnet_replies.specs.declared.reply.Reply.TheVariants as reply
+use Rattle.lnet_replies.specs.declared.reply.Unmet.{Unmet}
+use Rattle.lnet_replies.specs.Texts.{is_unmet, reply_text}
 use Rattle.lnet_session.specs.Steps.{World, Steps, Ended, Grows, end_of}
-use Rattle.lnet_session.specs.Runs.{Scene, Turn, Runs, Ran, Stopped, AfterStop, is_unmet, latest, scene_of}
+use Rattle.lnet_session.specs.Runs.{Scene, Turn, Runs, Ran, Stopped, AfterStop, latest, scene_of}
 
 or_false : (b : Bool) → (b || false) ≡ b
 or_false true = refl
@@ -53,13 +53,23 @@ ran_more cs c stop u b start old mid new origin ran ended which files sink =
 
 -- how an end says whether the command was met
 pub met_is : (answer : Reply) → ends.Met ≡ end_of answer → false ≡ is_unmet answer
-met_is (reply.Network i o a) e = refl
+met_is (reply.Network k i o g) e = refl
 met_is (reply.Wrote n) e = refl
+met_is (reply.Viewed v asked) e = refl
+met_is (reply.Dropped v) e = refl
+met_is (reply.Level node l) e = refl
+met_is (reply.Printed t) e = refl
+met_is (reply.Stats k i o g d) e = refl
 met_is (reply.Unmet cause) e = absurd cc
 
 pub unmet_is : (cause : Unmet) (answer : Reply) → ends.Unmet cause ≡ end_of answer → true ≡ is_unmet answer
-unmet_is cause (reply.Network i o a) e = absurd cc
+unmet_is cause (reply.Network k i o g) e = absurd cc
 unmet_is cause (reply.Wrote n) e = absurd cc
+unmet_is cause (reply.Viewed v asked) e = absurd cc
+unmet_is cause (reply.Dropped v) e = absurd cc
+unmet_is cause (reply.Level node l) e = absurd cc
+unmet_is cause (reply.Printed t) e = absurd cc
+unmet_is cause (reply.Stats k i o g d) e = absurd cc
 unmet_is cause (reply.Unmet d) e = refl
 
 pub with_met : (u v : Bool) → v ≡ u → v ≡ (u || false)

@@ -1,9 +1,9 @@
 pub mod Long
 pub mod Put
-pub mod ScriptLoop
-pub mod Words
-pub mod ScriptLaws
 pub mod Chain
+pub mod Keeping
+pub mod Places
+pub mod Placed
 pub mod Accepted
 pub mod Origins
 pub mod Statuses

@@ -7,67 +7,40 @@ use Rattle.std.specs.Cmp.{tied_itself}
 use Rattle.std.specs.Cmp.Lexicographic.{nat_list_cmp_total}
 use Rattle.std.specs.FinMap.{get, insert, get-insert}
 use Rattle.lnet_edge.specs.Outside.{Contents}
-use Rattle.lnet_edge.specs.Circuits.{CircuitValue, IsInOrder}
-use Rattle.lnet_model.specs.Networks.{NetworkValue}
-use Rattle.lnet_ascending.specs.Spelling.{text_of}
-use Rattle.lnet_ascending.specs.Meanings.{MeansSame}
-use Rattle.lnet_ascending.proofs.Same.{means_same}
-use Rattle.lnet_listedio.specs.Built.{built}
-use Rattle.lnet_listedio.proofs.Computes.{built-Acyclic, outputs-built, exported-built}
-use Rattle.lnet_session.specs.declared.command.Command.{Command}
-use Rattle.lnet_session.specs.declared.command.Command.TheVariants.{Read, Write}
-use Rattle.lnet_session.specs.declared.command.WriteFormat.{WriteFormat}
-use Rattle.lnet_session.specs.declared.reply.Unmet.TheVariants as unmet
-use Rattle.lnet_session.specs.declared.reply.Reply.{Reply}
-use Rattle.lnet_session.specs.declared.reply.Reply.TheVariants as reply
-use Rattle.lnet_session.specs.declared.session.StepEnd.{StepEnd}
-use Rattle.lnet_session.specs.declared.session.StepEnd.TheVariants as ends
+use Rattle.lnet_edge.specs.Circuits.{CircuitValue}
+use Rattle.lnet_script.specs.declared.command.Command.{Command}
+use Rattle.lnet_script.specs.declared.command.Command.TheVariants.{Write}
+use Rattle.lnet_script.specs.declared.command.WriteFormat.{WriteFormat}
+use Rattle.lnet_replies.specs.declared.reply.Reply.{Reply}
+use Rattle.lnet_replies.specs.declared.reply.Reply.TheVariants as reply
+use Rattle.lnet_replies.specs.Texts.{is_unmet}
+use Rattle.lnet_session.specs.declared.stepping.StepEnd.{StepEnd}
+use Rattle.lnet_session.specs.declared.stepping.StepEnd.TheVariants as ends
 use Rattle.lnet_session.specs.declared.running.RunEnd.{RunEnd}
 use Rattle.lnet_session.specs.declared.running.RunEnd.TheVariants as run
 use Rattle.lnet_session.specs.declared.top.Ending.{Ending}
 use Rattle.lnet_session.specs.declared.top.Ending.TheVariants as ending
 use Rattle.lnet_session.specs.Ends.{EndsAs, Untouched}
-use Rattle.lnet_session.specs.States.{State}
-use Rattle.lnet_session.specs.Effects.{Effect, Writes, written_text, with_content}
+use Rattle.lnet_session.specs.States.{Held, State}
+use Rattle.lnet_session.specs.Effects.{Writes, written_text, with_content}
 use Rattle.lnet_session.specs.Steps.{World}
-use Rattle.lnet_session.specs.Runs.{Scene, Turn, Runs, SplitsAt, Ran, Stopped, AfterStop, RunsTo, FollowsOrigin, is_unmet, latest, scene_of}
+use Rattle.lnet_session.specs.Runs.{Scene, Turn, Runs, SplitsAt, Ran, Stopped, AfterStop, RunsTo, FollowsOrigin, latest, scene_of}
+use Rattle.lnet_session.specs.Formats.{reader_of}
 use Rattle.lnet_session.specs.Written.{HoldsOrigin}
+use Rattle.lnet_session.proofs.Keeping.{effect-follows}
 
--- the network is the one that is built of the origin
-abbrev pub IsBuilt : Option NetworkValue → Option CircuitValue → Type 0
-IsBuilt None origin = Unit {0}
-IsBuilt (Some N) origin = (c : CircuitValue) × (origin ≡ Some c) × (N ≡ built c) × IsInOrder c
+turn-follows : (i : ℕ) (c : Command) (old new : Scene) (text : List ℕ) (u : Bool) → FollowsOrigin old.state.held old.origin → Turn i c old new text u → FollowsOrigin new.state.held new.origin
+turn-follows i c old new text u h t = subst (FollowsOrigin new.state.held) (sym t.origin_is) (effect-follows c old.state new.state old.contents new.contents t.answer t.source old.origin h t.effect)
 
-kept : (old new : State) (source origin : Option CircuitValue) → IsBuilt old.network origin → source ≡ None → new ≡ old → IsBuilt new.network (latest source origin)
-kept old new source origin h none same = subst (λ (s : Option CircuitValue). IsBuilt new.network (latest s origin)) (sym none) (subst (λ (t : State). IsBuilt t.network origin) (sym same) h)
+runs-follow : (i : ℕ) (cs : List Command) (old new : Scene) (text : List ℕ) (u : Bool) → FollowsOrigin old.state.held old.origin → Runs i cs old new text u → FollowsOrigin new.state.held new.origin
+runs-follow i [] old new text u h r = subst (λ (s : Scene). FollowsOrigin s.state.held s.origin) (sym r.0) h
+runs-follow i (c ∷ cs) old new text u h r = runs-follow (i + 1) cs r.0 new r.2 r.4 (turn-follows i c old r.0 r.1 r.3 h r.5) r.6
 
-pub effect_built : (c : Command) (old new : State) (before after : Option Contents) (answer : Reply) (source origin : Option CircuitValue) → IsBuilt old.network origin → Effect old before c answer source new after → IsBuilt new.network (latest source origin)
-effect_built (Read format name) old new before after (reply.Network i o g) source origin h e =
-    let r = e.0.2 in
-    subst (λ (s : Option CircuitValue). IsBuilt new.network (latest s origin)) (sym r.1) (subst (λ (n : Option NetworkValue). IsBuilt n (Some r.0)) (sym r.2.network) (r.0, refl, refl, r.2.means.0))
-effect_built (Read format name) old new before after (reply.Wrote n) source origin h e = absurd e.0.2
-effect_built (Read format name) old new before after (reply.Unmet unmet.NoNetwork) source origin h e = absurd e.0.2
-effect_built (Read format name) old new before after (reply.Unmet unmet.TooLong) source origin h e = let r = e.0.2 in kept old new source origin h r.0 r.2
-effect_built (Read format name) old new before after (reply.Unmet (unmet.Malformed line kind)) source origin h e = let r = e.0.2 in kept old new source origin h r.0 r.3.state
-effect_built (Write format name) old new before after answer source origin h e = kept old new source origin h e.2 e.1
+none-follows : (h : Option Held) (origin : Option CircuitValue) → h ≡ None → FollowsOrigin h origin
+none-follows h origin e = subst (λ (m : Option Held). FollowsOrigin m origin) (sym e) tt
 
-turn_built : (i : ℕ) (c : Command) (old new : Scene) (text : List ℕ) (u : Bool) → IsBuilt old.state.network old.origin → Turn i c old new text u → IsBuilt new.state.network new.origin
-turn_built i c old new text u h t = subst (IsBuilt new.state.network) (sym t.origin_is) (effect_built c old.state new.state old.contents new.contents t.answer t.source old.origin h t.effect)
-
-pub runs_built : (i : ℕ) (cs : List Command) (old new : Scene) (text : List ℕ) (u : Bool) → IsBuilt old.state.network old.origin → Runs i cs old new text u → IsBuilt new.state.network new.origin
-runs_built i [] old new text u h r = subst (λ (s : Scene). IsBuilt s.state.network s.origin) (sym r.0) h
-runs_built i (c ∷ cs) old new text u h r = runs_built (i + 1) cs r.0 new r.2 r.4 (turn_built i c old r.0 r.1 r.3 h r.5) r.6
-
-pub built_follows : (n : Option NetworkValue) (origin : Option CircuitValue) → IsBuilt n origin → FollowsOrigin n origin
-built_follows None origin h = tt
-built_follows (Some N) origin h =
-    subst (λ (M : NetworkValue). FollowsOrigin (Some M) origin) (sym h.2) (h.0, h.1, built-Acyclic h.0 h.3, λ a. outputs-built h.0 a h.3)
-
-none_built : (n : Option NetworkValue) (origin : Option CircuitValue) → n ≡ None → IsBuilt n origin
-none_built n origin e = subst (λ (m : Option NetworkValue). IsBuilt m origin) (sym e) tt
-
-pub runs_follow : (i : ℕ) (cs : List Command) (old new : Scene) (text : List ℕ) (u : Bool) → old.state.network ≡ None → Runs i cs old new text u → FollowsOrigin new.state.network new.origin
-runs_follow i cs old new text u none r = built_follows new.state.network new.origin (runs_built i cs old new text u (none_built old.state.network old.origin none) r)
+pub runs_follow : (i : ℕ) (cs : List Command) (old new : Scene) (text : List ℕ) (u : Bool) → old.state.held ≡ None → Runs i cs old new text u → FollowsOrigin new.state.held new.origin
+runs_follow i cs old new text u none r = runs-follow i cs old new text u (none-follows old.state.held old.origin none) r
 
 -- ---- what is written
 
@@ -86,56 +59,58 @@ told : (before : Option Contents) (name text : List ℕ) (m : Contents) → with
 told None name text m e = absurd cc
 told (Some k) name text m e = ap (λ (x : Contents). get x name) (sym (same_some (insert k name text) m e)) ∙ held k name text
 
--- the text of a network that is built of a circuit means a circuit with the same outputs
-text_means : (N : NetworkValue) (c : CircuitValue) → N ≡ built c → IsInOrder c → MeansSame (written_text N) c
-text_means N c is order =
-    let text : written_text N ≡ text_of c = ap written_text is ∙ ap text_of (exported-built c order) in
-    subst (λ (t : List ℕ). MeansSame t c) (sym text) (means_same c order)
+wrote : (format : WriteFormat) (h : Option Held) (before after : Option Contents) (name : List ℕ) (count : ℕ) (origin : Option CircuitValue) (m : Contents) → FollowsOrigin h origin → Writes format h before name (reply.Wrote count) after → after ≡ Some m → HoldsOrigin (reader_of format) m name origin
+wrote format None before after name count origin m f e is = absurd e
+wrote format (Some h) before after name count origin m f e is =
+    (written_text format h, told before name (written_text format h) m (sym e.2 ∙ is), (f.0, f.1, (e.3.circuit, e.3.means, λ a. e.3.outputs a ∙ f.3 a)))
 
-wrote : (n : Option NetworkValue) (before after : Option Contents) (name : List ℕ) (count : ℕ) (origin : Option CircuitValue) (m : Contents) → IsBuilt n origin → Writes n before name (reply.Wrote count) after → after ≡ Some m → HoldsOrigin m name origin
-wrote None before after name count origin m h e is = absurd e
-wrote (Some N) before after name count origin m h e is =
-    (written_text N, told before name (written_text N) m (sym e.1 ∙ is), (h.0, h.1, text_means N h.0 h.2 h.3))
+-- a met write wrote
+met-wrote : (format : WriteFormat) (h : Option Held) (before after : Option Contents) (name : List ℕ) (answer : Reply) (origin : Option CircuitValue) (m : Contents) → FollowsOrigin h origin → Writes format h before name answer after → false ≡ is_unmet answer → after ≡ Some m → HoldsOrigin (reader_of format) m name origin
+met-wrote format h before after name (reply.Wrote count) origin m f w met is = wrote format h before after name count origin m f w is
+met-wrote format h before after name (reply.Unmet cause) origin m f w met is = absurd cc
+met-wrote format None before after name (reply.Network k i o g) origin m f w met is = absurd w
+met-wrote format (Some h) before after name (reply.Network k i o g) origin m f w met is = absurd w
+met-wrote format None before after name (reply.Viewed v asked) origin m f w met is = absurd w
+met-wrote format (Some h) before after name (reply.Viewed v asked) origin m f w met is = absurd w
+met-wrote format None before after name (reply.Dropped v) origin m f w met is = absurd w
+met-wrote format (Some h) before after name (reply.Dropped v) origin m f w met is = absurd w
+met-wrote format None before after name (reply.Level node l) origin m f w met is = absurd w
+met-wrote format (Some h) before after name (reply.Level node l) origin m f w met is = absurd w
+met-wrote format None before after name (reply.Printed t) origin m f w met is = absurd w
+met-wrote format (Some h) before after name (reply.Printed t) origin m f w met is = absurd w
+met-wrote format None before after name (reply.Stats k i o g d) origin m f w met is = absurd w
+met-wrote format (Some h) before after name (reply.Stats k i o g d) origin m f w met is = absurd w
 
-pub turn_writes : (i : ℕ) (format : WriteFormat) (name : List ℕ) (old new : Scene) (text : List ℕ) (m : Contents) → IsBuilt old.state.network old.origin → Turn i (Write format name) old new text false → new.contents ≡ Some m → HoldsOrigin m name old.origin
-turn_writes i format name old new text m h t is = by_answer t.answer t.effect.0 t.unmet_is where
-  by_answer : (answer : Reply) → Writes old.state.network old.contents name answer new.contents → false ≡ is_unmet answer → HoldsOrigin m name old.origin
-  by_answer (reply.Wrote count) w met = wrote old.state.network old.contents new.contents name count old.origin m h w is
-  by_answer (reply.Network a b c) w met = absurd (no_network old.state.network w) where
-    no_network : (n : Option NetworkValue) → Writes n old.contents name (reply.Network a b c) new.contents → ⊥
-    no_network None w = w
-    no_network (Some N) w = w
-  by_answer (reply.Unmet cause) w met = absurd cc
-
-pub writes_follow : (i : ℕ) (cs : List Command) (old mid new : Scene) (text line : List ℕ) (u : Bool) (j : ℕ) (format : WriteFormat) (name : List ℕ) (m : Contents) → old.state.network ≡ None → Runs i cs old mid text u → Turn j (Write format name) mid new line false → new.contents ≡ Some m → HoldsOrigin m name mid.origin
-writes_follow i cs old mid new text line u j format name m none r t is = turn_writes j format name mid new line m (runs_built i cs old mid text u (none_built old.state.network old.origin none) r) t is
+pub writes_follow : (i : ℕ) (cs : List Command) (old mid new : Scene) (text line : List ℕ) (u : Bool) (j : ℕ) (format : WriteFormat) (name : List ℕ) (m : Contents) → old.state.held ≡ None → Runs i cs old mid text u → Turn j (Write format name) mid new line false → new.contents ≡ Some m → HoldsOrigin (reader_of format) m name mid.origin
+writes_follow i cs old mid new text line u j format name m none r t is =
+    met-wrote format mid.state.held mid.contents new.contents name t.answer mid.origin m (runs_follow i cs old mid text u none r) t.effect.0 t.unmet_is is
 
 -- ---- each end of a run
 
-ran_built : (cs : List Command) (u : Bool) (start : Option CircuitValue) (old new : World) (origin : Option CircuitValue) → IsBuilt old.state.network start → Ran cs u start old new origin → IsBuilt new.state.network origin
-ran_built cs u start old new origin h ran = runs_built 1 cs (scene_of old start) (scene_of new origin) ran.text u h ran.runs
+ran-follows : (cs : List Command) (u : Bool) (start : Option CircuitValue) (old new : World) (origin : Option CircuitValue) → FollowsOrigin old.state.held start → Ran cs u start old new origin → FollowsOrigin new.state.held origin
+ran-follows cs u start old new origin h ran = runs-follow 1 cs (scene_of old start) (scene_of new origin) ran.text u h ran.runs
 
-stop_built : (c : Command) (old new : World) (before after : Option CircuitValue) → IsBuilt old.state.network before → AfterStop c old new before after → IsBuilt new.state.network after
-stop_built c old new before after h (inl s) = subst (IsBuilt new.state.network) (sym s.1) (subst (λ (t : State). IsBuilt t.network before) (sym s.0) h)
-stop_built c old new before after h (inr s) = subst (IsBuilt new.state.network) (sym s.3) (effect_built c old.state new.state old.contents new.contents s.0 s.1 before h s.2)
+stop-follows : (c : Command) (old new : World) (before after : Option CircuitValue) → FollowsOrigin old.state.held before → AfterStop c old new before after → FollowsOrigin new.state.held after
+stop-follows c old new before after h (inl s) = subst (FollowsOrigin new.state.held) (sym s.1) (subst (λ (t : State). FollowsOrigin t.held before) (sym s.0) h)
+stop-follows c old new before after h (inr s) = subst (FollowsOrigin new.state.held) (sym s.3) (effect-follows c old.state new.state old.contents new.contents s.0 s.1 before h s.2)
 
-stopped_built : (cs : List Command) (stop : StepEnd) (start : Option CircuitValue) (old new : World) (origin : Option CircuitValue) → IsBuilt old.state.network start → Stopped cs stop start old new origin → IsBuilt new.state.network origin
-stopped_built cs stop start old new origin h s = stop_built s.command s.mid new s.mid_origin origin (ran_built (take s.done cs) s.unmet start old s.mid s.mid_origin h s.ran) s.after
+stopped-follows : (cs : List Command) (stop : StepEnd) (start : Option CircuitValue) (old new : World) (origin : Option CircuitValue) → FollowsOrigin old.state.held start → Stopped cs stop start old new origin → FollowsOrigin new.state.held origin
+stopped-follows cs stop start old new origin h s = stop-follows s.command s.mid new s.mid_origin origin (ran-follows (take s.done cs) s.unmet start old s.mid s.mid_origin h s.ran) s.after
 
-pub runs_to_built : (cs : List Command) (end : RunEnd) (start : Option CircuitValue) (old new : World) (origin : Option CircuitValue) → IsBuilt old.state.network start → RunsTo cs end start old new origin → IsBuilt new.state.network origin
-runs_to_built cs run.AllMet start old new origin h r = ran_built cs false start old new origin h r
-runs_to_built cs run.SomeUnmet start old new origin h r = ran_built cs true start old new origin h r
-runs_to_built cs run.Fault start old new origin h r = stopped_built cs ends.Fault start old new origin h r
-runs_to_built cs run.NoMemory start old new origin h r = stopped_built cs ends.NoMemory start old new origin h r
+runs_to-follow : (cs : List Command) (end : RunEnd) (start : Option CircuitValue) (old new : World) (origin : Option CircuitValue) → FollowsOrigin old.state.held start → RunsTo cs end start old new origin → FollowsOrigin new.state.held origin
+runs_to-follow cs run.AllMet start old new origin h r = ran-follows cs false start old new origin h r
+runs_to-follow cs run.SomeUnmet start old new origin h r = ran-follows cs true start old new origin h r
+runs_to-follow cs run.Fault start old new origin h r = stopped-follows cs ends.Fault start old new origin h r
+runs_to-follow cs run.NoMemory start old new origin h r = stopped-follows cs ends.NoMemory start old new origin h r
 
-untouched_built : (old new : World) (origin : Option CircuitValue) → old.state.network ≡ None → Untouched old new → IsBuilt new.state.network origin
-untouched_built old new origin none same = none_built new.state.network origin (ap (λ (t : State). t.network) same.state ∙ none)
+untouched-follows : (old new : World) (origin : Option CircuitValue) → old.state.held ≡ None → Untouched old new → FollowsOrigin new.state.held origin
+untouched-follows old new origin none same = none-follows new.state.held origin (ap (λ (t : State). t.held) same.state ∙ none)
 
-pub end_follows : (words : List (List ℕ)) (end : Ending) (old new : World) (origin : Option CircuitValue) → old.state.network ≡ None → EndsAs words end old new origin → FollowsOrigin new.state.network origin
-end_follows words (ending.Ran end) old new origin none e = built_follows new.state.network origin (runs_to_built e.commands end None old new origin (none_built old.state.network None none) e.runs)
-end_follows words (ending.Refused r) old new origin none e = built_follows new.state.network origin (untouched_built old new origin none e.0.untouched)
-end_follows words (ending.NotPut r) old new origin none e = built_follows new.state.network origin (untouched_built old new origin none e.0.untouched)
-end_follows words ending.NoMemory old new origin none e = built_follows new.state.network origin (untouched_built old new origin none e.0.untouched)
+pub end_follows : (words : List (List ℕ)) (end : Ending) (old new : World) (origin : Option CircuitValue) → old.state.held ≡ None → EndsAs words end old new origin → FollowsOrigin new.state.held origin
+end_follows words (ending.Ran end) old new origin none e = runs_to-follow e.commands end None old new origin (none-follows old.state.held None none) e.runs
+end_follows words (ending.Refused r) old new origin none e = untouched-follows old new origin none e.0.untouched
+end_follows words (ending.NotPut r) old new origin none e = untouched-follows old new origin none e.0.untouched
+end_follows words ending.NoMemory old new origin none e = untouched-follows old new origin none e.0.untouched
 
 -- ---- the states within a run
 

@@ -1,20 +1,22 @@
 -- When a run ends with each status.
-use Rattle.std.proofs.Common.{◌≡◌, ℕ, zero, suc, ◌+◌, ◌≤◌, ◌⊎◌, Bool, true, false, List, [], ◌∷◌, length, Option, Some, None, refl, sym, ap, subst, ◌∙◌, inl, inr, arith}
+use Rattle.std.proofs.Common.{◌≡◌, ℕ, zero, suc, ◌+◌, ◌≤◌, ◌⊎◌, Bool, true, false, List, [], ◌∷◌, length, Option, Some, None, Result, Ok, Err, refl, sym, ap, subst, ◌∙◌, inl, inr, arith}
 use Rattle.std.specs.Prelude.{◌||◌, slice_get}
 use Rattle.lnet_edge.specs.Outside.{Rose}
 use Rattle.lnet_edge.specs.Circuits.{CircuitValue}
-use Rattle.lnet_session.specs.declared.command.Command.{Command}
-use Rattle.lnet_session.specs.declared.session.StepEnd.TheVariants as ends
+use Rattle.lnet_script.specs.declared.command.Command.{Command}
+use Rattle.lnet_session.specs.declared.stepping.StepEnd.TheVariants as ends
 use Rattle.lnet_session.specs.declared.running.RunEnd.TheVariants as run
 use Rattle.lnet_session.specs.declared.top.Refusal.{Refusal}
 use Rattle.lnet_session.specs.declared.top.Refusal.TheVariants as refusal
 use Rattle.lnet_session.specs.declared.top.Ending.{Ending}
 use Rattle.lnet_session.specs.declared.top.Ending.TheVariants as ending
-use Rattle.lnet_session.specs.Scripts.{IsScript}
+use Rattle.lnet_script.specs.Scripts.{IsScript, commands_in}
 use Rattle.lnet_session.specs.Steps.{World, CallFailed, PutFailed}
 use Rattle.lnet_session.specs.Runs.{Scene, Turn, Runs, Stopped, scene_of}
 use Rattle.lnet_session.specs.Ends.{script_of, IsRefused, IsAccepted, EndsAs, status_number, IsRefusedSomehow, IsOneOf, IsFaulty, MeetsNoCause, IsUnhindered, IsOrMemory}
-use Rattle.lnet_session.proofs.ScriptLaws.{one_script}
+use Rattle.lnet_script.specs.Pieces.{pieces_of}
+use Rattle.lnet_script.proofs.ScriptLaws.{bad_read, spelled_read, ok_is}
+use Rattle.lnet_session.proofs.Keeping.{call-some}
 
 -- ---- the words and the script are accepted or refused, and not both
 
@@ -24,8 +26,15 @@ same_bytes words x y e f = ap (or_else x) (sym e ∙ f) where
   or_else d None = d
   or_else d (Some z) = z
 
+-- bytes are a script of one list of commands alone
+one_script : (bytes : List ℕ) (cs ds : List Command) → IsScript bytes cs → IsScript bytes ds → cs ≡ ds
+one_script bytes cs ds is also = ok_is cs ds (sym (spelled_read (pieces_of bytes) cs is) ∙ spelled_read (pieces_of bytes) ds also)
+
 accepted_once : (words : List (List ℕ)) (cs ds : List Command) → IsAccepted words cs → IsAccepted words ds → cs ≡ ds
 accepted_once words cs ds a b = one_script a.bytes cs ds a.script (subst (λ (t : List ℕ). IsScript t ds) (same_bytes words b.bytes a.bytes b.word a.word) b.script)
+
+ok_apart : (r : Result (List Command) ℕ) (cs : List Command) (line : ℕ) → r ≡ Ok cs → r ≡ Err line → ⊥
+ok_apart r cs line is bad = absurd (cc (is, bad))
 
 not_both : (words : List (List ℕ)) (cs : List Command) (r : Refusal) → IsAccepted words cs → IsRefused words r → ⊥
 not_both words cs refusal.Words a r = absurd (cc (a.word, r))
@@ -33,7 +42,7 @@ not_both words cs (refusal.Script line) a r =
     let same = same_bytes words r.0 a.bytes r.1 a.word in
     elim r.2 [
       | inl long ↦ let le = a.short in let e = ap length same in absurd (omega (arith, long.0))
-      | inr other ↦ other.1 cs (subst (λ (t : List ℕ). IsScript t cs) (sym same) a.script)
+      | inr other ↦ ok_apart (commands_in (pieces_of r.0)) cs line (spelled_read (pieces_of r.0) cs (subst (λ (t : List ℕ). IsScript t cs) (sym same) a.script)) (bad_read (pieces_of r.0) line other.1)
     ]
 
 -- ---- counts
@@ -77,6 +86,7 @@ faulty words cs old new origin a s = by_step s.step where
     accepted = a;
     command = s.command;
     of_script = member cs s.done s.command s.next;
+    makes = call-some s.command s.mid.state f.allowed;
     last = f.last;
   })
   by_step (inr f) = inl (rose_more old.sink_faults s.mid.sink_faults new.sink_faults s.ran.sink_faults f.rose)

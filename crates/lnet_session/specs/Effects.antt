@@ -1,46 +1,75 @@
 -- What a command does to the state and to the files, and what it answers.
-use Rattle.std.specs.Prelude.{◌≡◌, ℕ, ◌≤◌, ◌<◌, List, length, Option, Some, None}
+use Rattle.std.specs.Prelude.{◌≡◌, ◌≢◌, ℕ, ◌≤◌, ◌<◌, Bool, List, length, Option, Some, None, IsSome, string_bytes}
 use Rattle.std.specs.FinMap.{get, insert}
-use Rattle.lnet_model.specs.Networks.{NetworkValue, gate_count}
+use Rattle.lnet_gates.specs.declared.gate.Kind.{Kind}
+use Rattle.lnet_gates.specs.declared.gate.Kind.TheVariants.{Aig}
+use Rattle.lnet_model.specs.Networks.{NetworkValue, IsLive, gate_count}
+use Rattle.lnet_model.specs.Dags.{NUMBERS}
+use Rattle.lnet_model.specs.Levels.{level, depth}
+use Rattle.lnet_model.specs.Values.{network_outputs}
+use Rattle.lnet_model.specs.Answers.{kind_for}
+use Rattle.lnet_model.specs.declared.view_spec.ViewSpec.{ViewSpec}
+use Rattle.lnet_model.specs.declared.view_spec.ViewSpec.TheVariants.{Depth}
 use Rattle.lnet_edge.specs.Outside.{Contents, file_limit}
 use Rattle.lnet_edge.specs.Circuits.{CircuitValue}
-use Rattle.lnet_edge.specs.declared.fault.Fault.TheVariants.{Unbuilt}
-use Rattle.lnet_ascending.specs.Spelling.{Means, text_of}
-use Rattle.lnet_listedio.specs.Built.{built, exported}
-use Rattle.lnet_session.specs.declared.command.Command.{Command}
-use Rattle.lnet_session.specs.declared.command.Command.TheVariants.{Read, Write}
-use Rattle.lnet_session.specs.declared.reply.Unmet.TheVariants as unmet
-use Rattle.lnet_session.specs.declared.reply.Reply.{Reply}
-use Rattle.lnet_session.specs.declared.reply.Reply.TheVariants as reply
-use Rattle.lnet_session.specs.States.{State}
+use Rattle.lnet_edge.specs.Values.{circuit_outputs}
+use Rattle.lnet_aiger.specs.Texts.{input_names, output_names}
+use Rattle.lnet_print.specs.Printed.{print_text}
+use Rattle.lnet_build.specs.Built.{names_of, numbers_needed}
+use Rattle.lnet_export.specs.Exported.{exported}
+use Rattle.lnet_any.specs.Forms.{form_of}
+use Rattle.lnet_script.specs.declared.command.Command.{Command}
+use Rattle.lnet_script.specs.declared.command.Command.TheVariants as command
+use Rattle.lnet_script.specs.declared.command.Query.TheVariants.{Level}
+use Rattle.lnet_script.specs.declared.command.ReadFormat.{ReadFormat}
+use Rattle.lnet_script.specs.declared.command.WriteFormat.{WriteFormat}
+use Rattle.lnet_replies.specs.declared.reply.Unmet.TheVariants as unmet
+use Rattle.lnet_replies.specs.declared.reply.Reply.{Reply}
+use Rattle.lnet_replies.specs.declared.reply.Reply.TheVariants as reply
+use Rattle.lnet_subscriptions.specs.Rolls.{Attaches, Drops, all_shelved, place_among, place_of, spec_under}
+use Rattle.lnet_session.specs.States.{Held, State}
+use Rattle.lnet_session.specs.Made.{IsMadeOf}
+use Rattle.lnet_session.specs.Formats.{IsMalformed, MeansIn, reader_of, text_in}
 
 -- where the contents are told, the name holds these bytes
 abbrev pub Holds : Option Contents → List ℕ → List ℕ → Type 0
 Holds None name bytes = Unit {0}
 Holds (Some m) name bytes = get m name ≡ Some bytes
 
--- the bytes mean circuit c, and the network that is built of it is put in place
-pub record PutsInPlace (bytes : List ℕ) (c : CircuitValue) (inputs outputs gates : ℕ) (new : State) : Type 0 where
-  pub short : length bytes ≤ file_limit
-  pub means : Means bytes c
-  pub network : new.network ≡ Some (built c)
-  pub inputs_are : inputs ≡ length (built c).inputs
-  pub outputs_are : outputs ≡ length (built c).outputs
-  pub gates_are : gates ≡ gate_count (built c)
+-- a network of the kind is built of circuit c and put in place, and all live views go to the shelf
+pub record PutsInPlace (kind : Kind) (c : CircuitValue) (k : Kind) (inputs outputs gates : ℕ) (old new : State) : Type 0 where
+  pub network : NetworkValue
+  pub made : IsMadeOf kind (form_of kind) c network
+  pub held : new.held ≡ Some (record { network = network; names = names_of c })
+  pub roll : new.roll ≡ all_shelved old.roll
+  pub kind_is : k ≡ kind
+  pub inputs_are : inputs ≡ length network.inputs
+  pub outputs_are : outputs ≡ length network.outputs
+  pub gates_are : gates ≡ gate_count network
 
--- no circuit is meant, and the state is as before
-pub record IsMalformed (bytes : List ℕ) (old new : State) : Type 0 where
-  pub short : length bytes ≤ file_limit
-  pub meaningless : (c : CircuitValue) → Means bytes c → ⊥
+-- the building needs more numbers than there are, and the state is as before
+pub record IsFull (kind : Kind) (c : CircuitValue) (old new : State) : Type 0 where
+  pub needed : NUMBERS < numbers_needed kind (form_of kind) c
   pub state : new ≡ old
 
--- Reading these bytes. The source is the circuit that is put in force, where one is.
-abbrev pub Reads : State → List ℕ → Reply → Option CircuitValue → State → Type 0
-Reads old bytes (reply.Network inputs outputs gates) source new = (c : CircuitValue) × (source ≡ Some c) × PutsInPlace bytes c inputs outputs gates new
-Reads old bytes (reply.Unmet unmet.TooLong) source new = (source ≡ None) × (file_limit < length bytes) × (new ≡ old)
-Reads old bytes (reply.Unmet (unmet.Malformed line kind)) source new = (source ≡ None) × (line ≡ 0) × (kind ≡ Unbuilt) × IsMalformed bytes old new
-Reads old bytes (reply.Unmet unmet.NoNetwork) source new = ⊥
-Reads old bytes (reply.Wrote n) source new = ⊥
+-- the answer tells the kind and the counts of a network
+abbrev pub SaysCounts : NetworkValue → Reply → Type 0
+SaysCounts N (reply.Network kind inputs outputs gates) = (kind ≡ N.kind) × (inputs ≡ length N.inputs) × (outputs ≡ length N.outputs) × (gates ≡ gate_count N)
+SaysCounts N _ = ⊥
+
+-- putting the network of a circuit in place, or saying that it is too large
+abbrev pub Places : State → Kind → CircuitValue → Reply → State → Type 0
+Places old kind c (reply.Network k inputs outputs gates) new = PutsInPlace kind c k inputs outputs gates old new
+Places old kind c (reply.Unmet unmet.Full) new = IsFull kind c old new
+Places old kind c _ new = ⊥
+
+-- Reading these bytes as a network of the kind. The source is the circuit that is put in force, where one is.
+abbrev pub Reads : State → ReadFormat → Kind → List ℕ → Reply → Option CircuitValue → State → Type 0
+Reads old format kind bytes (reply.Network k inputs outputs gates) source new = (length bytes ≤ file_limit) × ((c : CircuitValue) × (source ≡ Some c) × MeansIn format bytes c × PutsInPlace kind c k inputs outputs gates old new)
+Reads old format kind bytes (reply.Unmet unmet.TooLong) source new = (source ≡ None) × (file_limit < length bytes) × (new ≡ old)
+Reads old format kind bytes (reply.Unmet (unmet.Malformed line fault)) source new = (source ≡ None) × (length bytes ≤ file_limit) × IsMalformed format bytes (record { line = line; kind = fault }) × (new ≡ old)
+Reads old format kind bytes (reply.Unmet unmet.Full) source new = (source ≡ None) × (length bytes ≤ file_limit) × ((c : CircuitValue) × MeansIn format bytes c × IsFull kind c old new)
+Reads old format kind bytes _ source new = ⊥
 
 -- the contents with one name set, where they are told
 abbrev pub with_content : Option Contents → List ℕ → List ℕ → Option Contents
@@ -48,21 +77,78 @@ with_content None name bytes = None
 with_content (Some m) name bytes = Some (insert m name bytes)
 
 -- the text that is written of a network
-abbrev pub written_text : NetworkValue → List ℕ
-written_text N = text_of (exported N)
+abbrev pub written_text : WriteFormat → Held → List ℕ
+written_text format h = text_in format (exported h.network h.names)
+
+-- the bytes mean a circuit in the format, with the names, whose outputs are the network's under each assignment
+pub record MeansHeld (format : ReadFormat) (bytes : List ℕ) (h : Held) : Type 0 where
+  pub circuit : CircuitValue
+  pub means : MeansIn format bytes circuit
+  pub outputs : (a : ℕ → Bool) → circuit_outputs circuit a ≡ network_outputs h.network a
+  pub inputs_named : input_names circuit.inputs ≡ h.names.inputs
+  pub outputs_named : output_names circuit.outputs ≡ h.names.outputs
 
 -- writing the network, where one is in place, under this name
-abbrev pub Writes : Option NetworkValue → Option Contents → List ℕ → Reply → Option Contents → Type 0
-Writes None before name (reply.Unmet unmet.NoNetwork) after = after ≡ before
-Writes None before name (reply.Unmet unmet.TooLong) after = ⊥
-Writes None before name (reply.Unmet (unmet.Malformed line kind)) after = ⊥
-Writes None before name (reply.Wrote n) after = ⊥
-Writes None before name (reply.Network inputs outputs gates) after = ⊥
-Writes (Some N) before name (reply.Wrote n) after = (n ≡ length (written_text N)) × (after ≡ with_content before name (written_text N))
-Writes (Some N) before name (reply.Unmet cause) after = ⊥
-Writes (Some N) before name (reply.Network inputs outputs gates) after = ⊥
+abbrev pub Writes : WriteFormat → Option Held → Option Contents → List ℕ → Reply → Option Contents → Type 0
+Writes format None before name (reply.Unmet unmet.NoNetwork) after = after ≡ before
+Writes format (Some h) before name (reply.Unmet unmet.WrongKind) after = (h.network.kind ≢ Aig) × (after ≡ before)
+Writes format (Some h) before name (reply.Wrote n) after = (h.network.kind ≡ Aig) × (n ≡ length (written_text format h)) × (after ≡ with_content before name (written_text format h)) × MeansHeld (reader_of format) (written_text format h) h
+Writes format _ before name _ after = ⊥
+
+-- attaching the first view of the spec's kind on the shelf
+abbrev pub Views : State → ViewSpec → Reply → State → Type 0
+Views old spec (reply.Viewed number asked) new = IsSome old.held × (number ≡ old.roll.next) × (asked ≡ spec) × (new.held ≡ old.held) × Attaches old.roll spec new.roll
+Views old spec (reply.Unmet unmet.NoNetwork) new = (old.held ≡ None) × (new ≡ old)
+Views old spec (reply.Unmet unmet.ShelfEmpty) new = IsSome old.held × (place_of (kind_for spec) old.roll.shelf ≡ None) × (new ≡ old)
+Views old spec _ new = ⊥
+
+-- putting a live view back
+abbrev pub PutsBack : State → ℕ → Reply → State → Type 0
+PutsBack old number (reply.Dropped n) new = IsSome old.held × (n ≡ number) × (new.held ≡ old.held) × Drops old.roll number new.roll
+PutsBack old number (reply.Unmet unmet.NoNetwork) new = (old.held ≡ None) × (new ≡ old)
+PutsBack old number (reply.Unmet unmet.NoView) new = IsSome old.held × (place_among number old.roll.live ≡ None) × (new ≡ old)
+PutsBack old number _ new = ⊥
+
+-- asking a live depth view for a node's level
+abbrev pub AsksLevel : Option Held → List (ℕ × ViewSpec) → ℕ → ℕ → Reply → Type 0
+AsksLevel None live number n (reply.Unmet unmet.NoNetwork) = Unit {0}
+AsksLevel (Some h) live number n (reply.Unmet unmet.NoView) = spec_under number live ≢ Some Depth
+AsksLevel (Some h) live number n (reply.Unmet unmet.NoNode) = (spec_under number live ≡ Some Depth) × (IsLive h.network n → ⊥)
+AsksLevel (Some h) live number n (reply.Level node l) = (spec_under number live ≡ Some Depth) × IsLive h.network n × (node ≡ n) × (l ≡ level h.network n)
+AsksLevel _ live number n _ = ⊥
+
+-- printing the network, and its counts
+abbrev pub Prints : Option Held → Reply → Type 0
+Prints None (reply.Unmet unmet.NoNetwork) = Unit {0}
+Prints (Some h) (reply.Printed text) = string_bytes text ≡ print_text h.network
+Prints _ _ = ⊥
+
+abbrev pub Counts : Option Held → Reply → Type 0
+Counts None (reply.Unmet unmet.NoNetwork) = Unit {0}
+Counts (Some h) (reply.Stats kind inputs outputs gates d) = (kind ≡ h.network.kind) × (inputs ≡ length h.network.inputs) × (outputs ≡ length h.network.outputs) × (gates ≡ gate_count h.network) × (d ≡ depth h.network)
+Counts _ _ = ⊥
+
+-- the networks have the same outputs under each assignment
+abbrev pub AgreeOutputs : Option Held → Option Held → Type 0
+AgreeOutputs None None = Unit {0}
+AgreeOutputs None (Some k) = ⊥
+AgreeOutputs (Some h) None = ⊥
+AgreeOutputs (Some h) (Some k) = (a : ℕ → Bool) → network_outputs k.network a ≡ network_outputs h.network a
+
+-- putting the network of another kind in place that is built of what the network in place is exported to
+abbrev pub Converts : State → Option Held → Kind → Reply → State → Type 0
+Converts old None kind (reply.Unmet unmet.NoNetwork) new = new ≡ old
+Converts old (Some h) kind (reply.Network k inputs outputs gates) new = PutsInPlace kind (exported h.network h.names) k inputs outputs gates old new × AgreeOutputs old.held new.held
+Converts old (Some h) kind (reply.Unmet unmet.Full) new = IsFull kind (exported h.network h.names) old new
+Converts old _ kind _ new = ⊥
 
 -- What a command may do and answer; its source is the circuit that it puts in force, where it puts one.
 abbrev pub Effect : State → Option Contents → Command → Reply → Option CircuitValue → State → Option Contents → Type 0
-Effect old before (Read format name) answer source new after = ((bytes : List ℕ) × Holds before name bytes × Reads old bytes answer source new) × (after ≡ before)
-Effect old before (Write format name) answer source new after = Writes old.network before name answer after × (new ≡ old) × (source ≡ None)
+Effect old before (command.Read format name kind) answer source new after = ((bytes : List ℕ) × Holds before name bytes × Reads old format kind bytes answer source new) × (after ≡ before)
+Effect old before (command.Write format name) answer source new after = Writes format old.held before name answer after × (new ≡ old) × (source ≡ None)
+Effect old before (command.View spec) answer source new after = Views old spec answer new × (after ≡ before) × (source ≡ None)
+Effect old before (command.Drop number) answer source new after = PutsBack old number answer new × (after ≡ before) × (source ≡ None)
+Effect old before (command.Ask number Level n) answer source new after = AsksLevel old.held old.roll.live number n answer × (new ≡ old) × (after ≡ before) × (source ≡ None)
+Effect old before command.Print answer source new after = Prints old.held answer × (new ≡ old) × (after ≡ before) × (source ≡ None)
+Effect old before command.Stats answer source new after = Counts old.held answer × (new ≡ old) × (after ≡ before) × (source ≡ None)
+Effect old before (command.Convert kind) answer source new after = Converts old old.held kind answer new × (after ≡ before) × (source ≡ None)

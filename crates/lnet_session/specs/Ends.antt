@@ -1,22 +1,23 @@
 -- How a whole run ends, and when it ends with each status.
-use Rattle.std.specs.Prelude.{◌≡◌, ◌⊎◌, ℕ, ◌≤◌, Bool, false, ◌==◌, List, [], ◌∷◌, ◌++◌, length, Option, Some, None, codes, if◌then◌else◌}
+use Rattle.std.specs.Prelude.{◌≡◌, ◌⊎◌, ℕ, ◌≤◌, Bool, false, ◌==◌, List, [], ◌∷◌, ◌++◌, length, Option, Some, None, IsSome, codes, if◌then◌else◌}
 use Rattle.std.specs.Fmt.{decimal}
 use Rattle.lnet_edge.specs.Outside.{Rose, Contents}
 use Rattle.lnet_edge.specs.Circuits.{CircuitValue}
-use Rattle.lnet_session.specs.declared.command.Command.{Command}
-use Rattle.lnet_session.specs.declared.reply.Reply.{Reply}
-use Rattle.lnet_session.specs.declared.script.ScriptError.TheVariants as script
+use Rattle.lnet_replies.specs.declared.reply.Reply.{Reply}
+use Rattle.lnet_replies.specs.Texts.{is_unmet}
+use Rattle.lnet_script.specs.declared.command.Command.{Command}
+use Rattle.lnet_script.specs.declared.script.ScriptError.TheVariants as script
+use Rattle.lnet_script.specs.Scripts.{IsScript, Refuses, script_limit}
 use Rattle.lnet_session.specs.declared.running.RunEnd.{RunEnd}
 use Rattle.lnet_session.specs.declared.running.RunEnd.TheVariants as run
 use Rattle.lnet_session.specs.declared.top.Refusal.{Refusal}
 use Rattle.lnet_session.specs.declared.top.Refusal.TheVariants as refusal
 use Rattle.lnet_session.specs.declared.top.Ending.{Ending}
 use Rattle.lnet_session.specs.declared.top.Ending.TheVariants as ending
-use Rattle.lnet_session.specs.Scripts.{IsScript, Refuses, script_limit}
 use Rattle.lnet_session.specs.States.{State}
 use Rattle.lnet_session.specs.Effects.{Effect}
 use Rattle.lnet_session.specs.Steps.{World, Grows, GrowsByPart, own_call}
-use Rattle.lnet_session.specs.Runs.{RunsTo, FollowsOrigin, is_unmet}
+use Rattle.lnet_session.specs.Runs.{RunsTo, FollowsOrigin}
 
 abbrev pub begins_with_dash : List ℕ → Bool
 begins_with_dash [] = false
@@ -114,7 +115,8 @@ pub record FilesFailed (words : List (List ℕ)) (old new : World) : Type 0 wher
   pub accepted : IsAccepted words commands
   pub command : Command
   pub of_script : IsOneOf command commands
-  pub last : new.last ≡ Some (own_call command)
+  pub makes : IsSome (own_call command)
+  pub last : new.last ≡ own_call command
 
 -- a put failed, or a call of the files did
 abbrev pub IsFaulty : List (List ℕ) → World → World → Type 0
@@ -141,7 +143,7 @@ pub record IsOutcome (words : List (List ℕ)) (status : ℕ) (old new : World) 
   pub origin : Option CircuitValue
   pub ends : EndsAs words end old new origin
   pub status_is : status ≡ status_number end
-  pub follows : FollowsOrigin new.state.network origin
+  pub follows : FollowsOrigin new.state.held origin
 
 -- want of memory comes in place of any answer
 abbrev pub IsOrMemory : ℕ → ℕ → Type 0

@@ -1,9 +1,9 @@
-pub mod Texts
 pub mod States
+pub mod Made
+pub mod Formats
 pub mod Sessions
 pub mod Effects
 pub mod Steps
 pub mod Runs
-pub mod Scripts
 pub mod Ends
 pub mod Written

@@ -3,25 +3,18 @@ use Rattle.std.specs.Prelude.{◌≡◌, ℕ, ◌+◌, ◌≤◌, Bool, true, fa
 use Rattle.lnet_edge.specs.Outside.{Contents}
 use Rattle.lnet_edge.specs.Circuits.{CircuitValue}
 use Rattle.lnet_edge.specs.Values.{circuit_outputs}
-use Rattle.lnet_model.specs.Networks.{NetworkValue}
 use Rattle.lnet_model.specs.Along.{Acyclic}
 use Rattle.lnet_model.specs.Values.{network_outputs}
-use Rattle.lnet_session.specs.declared.reply.Reply.{Reply}
-use Rattle.lnet_session.specs.declared.reply.Reply.TheVariants as reply
-use Rattle.lnet_session.specs.declared.command.Command.{Command}
-use Rattle.lnet_session.specs.declared.session.StepEnd.{StepEnd}
+use Rattle.lnet_replies.specs.declared.reply.Reply.{Reply}
+use Rattle.lnet_replies.specs.Texts.{is_unmet, reply_text}
+use Rattle.lnet_script.specs.declared.command.Command.{Command}
+use Rattle.lnet_session.specs.declared.stepping.StepEnd.{StepEnd}
+use Rattle.lnet_session.specs.declared.stepping.StepEnd.TheVariants as ends
 use Rattle.lnet_session.specs.declared.running.RunEnd.{RunEnd}
 use Rattle.lnet_session.specs.declared.running.RunEnd.TheVariants as run
-use Rattle.lnet_session.specs.declared.session.StepEnd.TheVariants as ends
-use Rattle.lnet_session.specs.States.{State}
-use Rattle.lnet_session.specs.Texts.{reply_text}
+use Rattle.lnet_session.specs.States.{Held, State}
 use Rattle.lnet_session.specs.Effects.{Effect}
 use Rattle.lnet_session.specs.Steps.{World, Steps, Grows}
-
-abbrev pub is_unmet : Reply → Bool
-is_unmet (reply.Network inputs outputs gates) = false
-is_unmet (reply.Wrote n) = false
-is_unmet (reply.Unmet cause) = true
 
 -- what a run carries from command to command; the origin is the circuit of the file last read, none before the first
 pub record Scene : Type 0 where
@@ -93,6 +86,6 @@ RunsTo commands run.NoMemory start old new origin = Stopped commands ends.NoMemo
 -- ---- what a run keeps
 
 -- the network, where one is in place, has no cycle, and each output computes what it computes in the origin
-abbrev pub FollowsOrigin : Option NetworkValue → Option CircuitValue → Type 0
+abbrev pub FollowsOrigin : Option Held → Option CircuitValue → Type 0
 FollowsOrigin None origin = Unit {0}
-FollowsOrigin (Some N) origin = (c : CircuitValue) × (origin ≡ Some c) × Acyclic N × ((a : ℕ → Bool) → network_outputs N a ≡ circuit_outputs c a)
+FollowsOrigin (Some h) origin = (c : CircuitValue) × (origin ≡ Some c) × Acyclic h.network × ((a : ℕ → Bool) → network_outputs h.network a ≡ circuit_outputs c a)

@@ -1,18 +1,59 @@
--- What contracts see of a session.
-use Rattle.std.specs.Prelude.{Option, Some, None}
+-- What contracts see of a session, and what is kept in one.
+use Rattle.std.specs.Prelude.{◌≡◌, ℕ, Option, None, Some, length}
+use Rattle.std.proofs.Common.{Global}
+use Rattle.std.specs.declared.dyn_box.DynBox.{DynBox}
+use Rattle.lnet_model.specs.Answers.{Answer}
 use Rattle.lnet_model.specs.Networks.{NetworkValue}
-use Rattle.lnet_session.specs.declared.session.AnyNet.{AnyNet}
-use Rattle.lnet_session.specs.declared.session.AnyNet.TheVariants.{Aig}
+use Rattle.lnet_model.specs.declared.view_spec.ViewKind.{ViewKind}
+use Rattle.lnet_model.specs.declared.view_spec.ViewSpec.{ViewSpec}
+use Rattle.lnet_store.specs.declared.view.View.{Ghosts}
+use Rattle.lnet_names.specs.NameLists.{NamesValue}
+use Rattle.lnet_any.specs.AnyNets.{network_in}
+use Rattle.lnet_any.specs.Forms.{form_of}
+use Rattle.lnet_subscriptions.specs.Kept.{Follow, InStepWith, Rest, roll_of}
+use Rattle.lnet_subscriptions.specs.declared.roll.Subscriptions.{Subscriptions}
+use Rattle.lnet_session.specs.declared.session.Place.{Place}
 use Rattle.lnet_session.specs.declared.session.Session.{Session}
-use Rattle.lnet_session.specs.States.{State}
+use Rattle.lnet_session.specs.States.{Held, State}
+use Rattle.lnet_session.specs.Made.{IsSound}
 
--- a network of any kind, as the network of the definitions
-abbrev pub network_in : AnyNet → NetworkValue
-network_in (Aig N) = N
+-- what is in place, as contracts see it
+abbrev pub held_in : {X : Type 0} {F : X → Type 0} → Option (Place X F) → Option Held
+held_in None = None
+held_in (Some p) = Some (record { network = network_in p.network; names = p.names })
 
-abbrev pub network_if : Option AnyNet → Option NetworkValue
-network_if None = None
-network_if (Some n) = Some (network_in n)
+-- what a boxed view says of itself: its kind, its spec, what it keeps, and for how many numbers it has memory
+abbrev pub kind_in : {X : Type 0} {F : X → Type 0} → ((b : DynBox X Global F) → Ghosts (F b.vtable)) → DynBox X Global F → ViewKind
+kind_in ghosts b = (ghosts b).kind_of b.value
 
-abbrev pub state_of : Session → State
-state_of s = record { network = network_if s.network }
+abbrev pub spec_in : {X : Type 0} {F : X → Type 0} → ((b : DynBox X Global F) → Ghosts (F b.vtable)) → DynBox X Global F → Option ViewSpec
+spec_in ghosts b = (ghosts b).spec_of b.value
+
+abbrev pub kept_in : {X : Type 0} {F : X → Type 0} → ((b : DynBox X Global F) → Ghosts (F b.vtable)) → DynBox X Global F → ℕ → Option Answer
+kept_in ghosts b = (ghosts b).kept b.value
+
+abbrev pub room_in : {X : Type 0} {F : X → Type 0} → ((b : DynBox X Global F) → Ghosts (F b.vtable)) → DynBox X Global F → ℕ
+room_in ghosts b = (ghosts b).room b.value
+
+-- the state of a session
+abbrev pub state_of : {X : Type 0} {F : X → Type 0} → ((b : DynBox X Global F) → Ghosts (F b.vtable)) → Session X F → State
+state_of ghosts s = record { held = held_in s.place; roll = roll_of (kind_in ghosts) s.views }
+
+-- the names are as many as the inputs and outputs
+pub record FitNames (N : NetworkValue) (names : NamesValue) : Type 0 where
+  pub inputs : length names.inputs ≡ length N.inputs
+  pub outputs : length names.outputs ≡ length N.outputs
+
+-- what is kept in place: a sound network with names that fit, each view of which answers as computed from it, and the live views
+-- of the session are its views. Where nothing is in place no view is live. The views on the shelf are detached
+abbrev pub IsGoodPlace : {X : Type 0} {F : X → Type 0} → ((b : DynBox X Global F) → Ghosts (F b.vtable)) → Subscriptions X F → Option (Place X F) → Type 0
+IsGoodPlace ghosts views None = Rest (spec_in ghosts) views
+IsGoodPlace ghosts views (Some p) = IsSound (form_of (network_in p.network).kind) (network_in p.network) × FitNames (network_in p.network) p.names × InStepWith (spec_in ghosts) (kept_in ghosts) (room_in ghosts) p.network × Follow (kind_in ghosts) (spec_in ghosts) p.network views
+
+-- the same of a session
+abbrev pub IsGood : {X : Type 0} {F : X → Type 0} → ((b : DynBox X Global F) → Ghosts (F b.vtable)) → Session X F → Type 0
+IsGood ghosts s = IsGoodPlace ghosts s.views s.place
+
+-- no view of the session is live, and those on the shelf are detached
+abbrev pub IsAtRest : {X : Type 0} {F : X → Type 0} → ((b : DynBox X Global F) → Ghosts (F b.vtable)) → Session X F → Type 0
+IsAtRest ghosts s = Rest (spec_in ghosts) s.views

@@ -1,35 +1,46 @@
 -- One command: the state, the contents and the text, at each of its four ends.
-use Rattle.std.specs.Prelude.{◌≡◌, ◌⊎◌, ℕ, ◌≤◌, Bool, List, ◌++◌, length, take, Option, Some, None, IsSome}
+use Rattle.std.specs.Prelude.{◌≡◌, ◌⊎◌, ℕ, ◌≤◌, List, ◌++◌, length, take, Option, Some, None}
+use Rattle.lnet_gates.specs.declared.gate.Kind.TheVariants.{Aig}
+use Rattle.lnet_model.specs.Answers.{IsSpec}
 use Rattle.lnet_edge.specs.Outside.{Contents, Call, Rose, call_of}
 use Rattle.lnet_edge.specs.Circuits.{CircuitValue}
 use Rattle.lnet_edge.specs.declared.outside.Direction.TheVariants.{Fetch, Store}
-use Rattle.lnet_model.specs.Networks.{NetworkValue}
-use Rattle.lnet_model.specs.Values.{network_outputs}
-use Rattle.lnet_session.specs.declared.reply.Reply.{Reply}
-use Rattle.lnet_session.specs.declared.reply.Reply.TheVariants as reply
-use Rattle.lnet_session.specs.declared.command.Command.{Command}
-use Rattle.lnet_session.specs.declared.command.Command.TheVariants.{Read, Write}
-use Rattle.lnet_session.specs.declared.session.StepEnd.{StepEnd}
-use Rattle.lnet_session.specs.declared.session.StepEnd.TheVariants as ends
-use Rattle.lnet_session.specs.States.{State}
-use Rattle.lnet_session.specs.Effects.{Effect}
-use Rattle.lnet_session.specs.Texts.{reply_text}
+use Rattle.lnet_replies.specs.declared.reply.Reply.{Reply}
+use Rattle.lnet_replies.specs.declared.reply.Reply.TheVariants as reply
+use Rattle.lnet_replies.specs.Texts.{reply_text}
+use Rattle.lnet_script.specs.declared.command.Command.{Command}
+use Rattle.lnet_script.specs.declared.command.Command.TheVariants as command
+use Rattle.lnet_session.specs.declared.stepping.StepEnd.{StepEnd}
+use Rattle.lnet_session.specs.declared.stepping.StepEnd.TheVariants as ends
+use Rattle.lnet_session.specs.States.{Held, State}
+use Rattle.lnet_session.specs.Effects.{AgreeOutputs, Effect}
 
 -- how a command that ran to its end ends
 abbrev pub end_of : Reply → StepEnd
-end_of (reply.Network inputs outputs gates) = ends.Met
-end_of (reply.Wrote n) = ends.Met
 end_of (reply.Unmet cause) = ends.Unmet cause
+end_of _ = ends.Met
 
--- the call of the files that a command makes
-abbrev pub own_call : Command → Call
-own_call (Read format name) = call_of Fetch name
-own_call (Write format name) = call_of Store name
+-- the cut rule of a view is within the limits
+abbrev pub IsCommand : Command → Type 0
+IsCommand (command.View spec) = IsSpec spec
+IsCommand _ = Unit {0}
+
+-- the call of the files that a command makes, if it makes one
+abbrev pub own_call : Command → Option Call
+own_call (command.Read format name kind) = Some (call_of Fetch name)
+own_call (command.Write format name) = Some (call_of Store name)
+own_call _ = None
+
+-- a network of And gates is in place
+abbrev pub CanWrite : Option Held → Type 0
+CanWrite None = ⊥
+CanWrite (Some h) = h.network.kind ≡ Aig
 
 -- no cause that comes before that call keeps the command from it
 abbrev pub MakesCall : Command → State → Type 0
-MakesCall (Read format name) state = Unit {0}
-MakesCall (Write format name) state = IsSome state.network
+MakesCall (command.Read format name kind) state = Unit {0}
+MakesCall (command.Write format name) state = CanWrite state.held
+MakesCall _ state = ⊥
 
 -- the sink, where it tells its bytes, grew by this text
 abbrev pub Grows : Option (List ℕ) → List ℕ → Option (List ℕ) → Type 0
@@ -64,7 +75,7 @@ pub record CallFailed (command : Command) (old new : World) : Type 0 where
   pub contents : new.contents ≡ old.contents
   pub written : new.written ≡ old.written
   pub rose : Rose old.file_faults new.file_faults
-  pub last : new.last ≡ Some (own_call command)
+  pub last : new.last ≡ own_call command
 
 -- the put of the command's text failed, and its effect stands
 pub record PutFailed (command : Command) (index : ℕ) (old new : World) : Type 0 where
@@ -97,14 +108,7 @@ Steps command index (ends.Unmet cause) old new = Ended command index (ends.Unmet
 Steps command index ends.Fault old new = CallFailed command old new ⊎ PutFailed command index old new
 Steps command index ends.NoMemory old new = OutOfMemory command old new
 
--- two states have networks with the same outputs under each assignment, or both have none
-abbrev pub SameOutputs : Option NetworkValue → Option NetworkValue → Type 0
-SameOutputs None None = Unit {0}
-SameOutputs None (Some M) = ⊥
-SameOutputs (Some N) None = ⊥
-SameOutputs (Some N) (Some M) = (a : ℕ → Bool) → network_outputs M a ≡ network_outputs N a
-
 -- a command other than a read keeps the functions of the outputs, however it ends
 abbrev pub KeepsOutputs : Command → State → State → Type 0
-KeepsOutputs (Read format name) old new = Unit {0}
-KeepsOutputs (Write format name) old new = SameOutputs old.network new.network
+KeepsOutputs (command.Read format name kind) old new = Unit {0}
+KeepsOutputs _ old new = AgreeOutputs old.held new.held

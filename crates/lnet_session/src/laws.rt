@@ -2,10 +2,11 @@
 
 ghost use Rattle.std.specs.Prelude.{◌≡◌, ℕ, ◌+◌, Bool, false, List, ◌++◌, length, Some, None};
 ghost use Rattle.lnet_edge.specs.Outside.{Contents};
-ghost use Rattle.lnet_session.specs.declared.command.Command.{Command as CommandValue};
-ghost use Rattle.lnet_session.specs.declared.command.Command.TheVariants.{Write};
-ghost use Rattle.lnet_session.specs.declared.command.WriteFormat.{WriteFormat as FormatValue};
+ghost use Rattle.lnet_script.specs.declared.command.Command.{Command as CommandValue};
+ghost use Rattle.lnet_script.specs.declared.command.Command.TheVariants.{Write};
+ghost use Rattle.lnet_script.specs.declared.command.WriteFormat.{WriteFormat as FormatValue};
 ghost use Rattle.lnet_session.specs.Runs.{Scene, Turn, Runs, SplitsAt, FollowsOrigin};
+ghost use Rattle.lnet_session.specs.Formats.{reader_of};
 ghost use Rattle.lnet_session.specs.Written.{HoldsOrigin};
 
 /// Over each run that begins without a network, the network of each state has no cycle, and each of its outputs
@@ -15,14 +16,14 @@ ghost use Rattle.lnet_session.specs.Written.{HoldsOrigin};
 /// of its first commands.
 pub fn runs_follow_their_origin()
     ensures states { (index : ℕ) (commands : List CommandValue) (old new : Scene) (text : List ℕ) (unmet : Bool)
-        → old.state.network ≡ None → Runs index commands old new text unmet → FollowsOrigin new.state.network new.origin }
+        → old.state.held ≡ None → Runs index commands old new text unmet → FollowsOrigin new.state.held new.origin }
     ensures fronts { (index : ℕ) (front rest : List CommandValue) (old new : Scene) (text : List ℕ) (unmet : Bool)
         → Runs index (front ++ rest) old new text unmet → SplitsAt index front rest old new text }
 {}
 
-/// At the moment of a met write, the content that it left means a circuit whose outputs compute the functions of the
+/// At the moment of a met write, the content that it left means, in the format's reading, a circuit whose outputs compute the functions of the
 /// file last read.
 pub fn writes_mean_their_origin()
     ensures { (index : ℕ) (commands : List CommandValue) (old mid new : Scene) (text line : List ℕ) (unmet : Bool) (at : ℕ) (format : FormatValue) (name : List ℕ) (contents : Contents)
-        → old.state.network ≡ None → Runs index commands old mid text unmet → Turn at (Write format name) mid new line false → new.contents ≡ Some contents → HoldsOrigin contents name mid.origin }
+        → old.state.held ≡ None → Runs index commands old mid text unmet → Turn at (Write format name) mid new line false → new.contents ≡ Some contents → HoldsOrigin (reader_of format) contents name mid.origin }
 {}

@@ -1,17 +1,17 @@
-//! The script, its commands, and the run of a script.
+//! A session of commands, and the run of a script.
 #![tactic(auto)]
 
-mod command;
+mod asking;
+mod circuits;
 mod laws;
-mod reply;
+mod placing;
 mod running;
-mod script;
 mod session;
+mod stepping;
 mod top;
 
-pub use command::{Command, ReadFormat, WriteFormat};
 pub use laws::{runs_follow_their_origin, writes_mean_their_origin};
-pub use reply::Unmet;
-pub use script::{ScriptError, parse_script};
-pub use session::{AnyNet, Kit, Session, StepEnd};
+pub use running::RunEnd;
+pub use session::{Kit, Session};
+pub use stepping::StepEnd;
 pub use top::{Outcome, run};

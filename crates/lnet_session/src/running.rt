@@ -1,14 +1,16 @@
 //! The commands of a script one after the other.
 
-ghost use Rattle.std.specs.Prelude.{◌≤◌, Option, length};
+ghost use Rattle.std.specs.Prelude.{◌≤◌, ◌<◌, ◌+◌, ◌-◌, ◌^◌, All, Option, length};
 ghost use Rattle.lnet_edge.specs.Circuits.{CircuitValue};
-ghost use Rattle.lnet_session.specs.Sessions.{state_of};
-ghost use Rattle.lnet_session.specs.Steps.{World};
+ghost use Rattle.lnet_session.specs.Sessions.{IsGood, state_of};
+ghost use Rattle.lnet_session.specs.Steps.{IsCommand, World};
 ghost use Rattle.lnet_session.specs.Runs.{RunsTo};
 
-use crate::command::Command;
-use crate::session::{Session, StepEnd};
+use crate::session::Session;
+use crate::stepping::StepEnd;
 use lnet_edge::{Files, Sink};
+use lnet_script::Command;
+use lnet_store::View;
 use std::alloc::Global;
 
 /// How a run of commands ended.
@@ -32,10 +34,14 @@ pub fn run_commands<F: Files, S: Sink>(
     files: &mut F,
     out: &mut S,
 ) -> RunEnd
-    requires { length commands.now ≤ 1048576 }
-    ensures { (start : Option CircuitValue) → (origin : Option CircuitValue) × RunsTo commands.now result start
-        (record { state = state_of session.old; contents = F.contents files.old; written = S.written out.old; file_faults = F.faults files.old; last = F.last files.old; sink_faults = S.faults out.old })
-        (record { state = state_of session.new; contents = F.contents files.new; written = S.written out.new; file_faults = F.faults files.new; last = F.last files.new; sink_faults = S.faults out.new }) origin }
+    requires few { length commands.now ≤ 1048576 }
+    requires commands { All IsCommand commands.now }
+    requires next { (state_of (λ b. ⟦<dyn View as View>⟧ b.vtable) session.old).roll.next + length commands.now < 2 ^ 32 - 1 }
+    requires good { IsGood (λ b. ⟦<dyn View as View>⟧ b.vtable) session.old }
+    ensures good { IsGood (λ b. ⟦<dyn View as View>⟧ b.vtable) session.new }
+    ensures runs { (start : Option CircuitValue) → (origin : Option CircuitValue) × RunsTo commands.now result start
+        (record { state = state_of (λ b. ⟦<dyn View as View>⟧ b.vtable) session.old; contents = F.contents files.old; written = S.written out.old; file_faults = F.faults files.old; last = F.last files.old; sink_faults = S.faults out.old })
+        (record { state = state_of (λ b. ⟦<dyn View as View>⟧ b.vtable) session.new; contents = F.contents files.new; written = S.written out.new; file_faults = F.faults files.new; last = F.last files.new; sink_faults = S.faults out.new }) origin }
 {
     let mut unmet = false;
     for (index, command) in commands.iter().enumerate() {

@@ -1,213 +1,155 @@
-//! A session: the network, and the commands on it.
+//! A session: the network in place, its names and its views.
 
-ghost use Rattle.std.specs.Prelude.{◌≡◌, ◌<◌, ◌≤◌, ◌⊎◌, ℕ, List, Option, length, IfOk, OnOk, OnErr, IfErr, IsErrOf, IfSome, MatchOption, Some, None, IsSome, string_bytes};
-ghost use Rattle.lnet_edge.specs.Outside.{Rose, call_of, file_limit};
-ghost use Rattle.lnet_edge.specs.Circuits.{CircuitValue};
-ghost use Rattle.lnet_edge.specs.declared.outside.Direction.TheVariants.{Fetch, Store};
-ghost use Rattle.lnet_session.specs.Effects.{Holds, Reads, Writes, Effect};
-ghost use Rattle.lnet_session.specs.Steps.{Steps, World, KeepsOutputs, MakesCall, end_of, own_call};
+ghost use Rattle.std.specs.Prelude.{◌≡◌, [], map, option_map, Some, None, IfOk, IfErr, OnOk, OnErr};
+ghost use Rattle.lnet_any.specs.AnyNets.{network_in, views_in};
+ghost use Rattle.lnet_any.specs.Forms.{form_of};
+ghost use Rattle.lnet_subscriptions.specs.Kept.{AreDetached};
+ghost use Rattle.lnet_subscriptions.specs.Rolls.{all_shelved};
+ghost use Rattle.lnet_session.specs.Effects.{SaysCounts};
+ghost use Rattle.lnet_session.specs.Made.{IsSound};
+ghost use Rattle.lnet_session.specs.Sessions.{IsAtRest, IsGood, FitNames, state_of};
 
-use crate::command::Command;
-use crate::reply::{Reply, Unmet, text_of_reply};
-use lnet_ascending::{ReadError, read, write_ascii};
-use lnet_edge::{FetchError, Files, Name, PutError, Sink};
-use lnet_listed::Network;
-use lnet_listedio::{build, export};
+use lnet_any::AnyNet;
+use lnet_model::ViewSpec;
+use lnet_names::Names;
+use lnet_replies::Reply;
+use lnet_store::View;
+use lnet_subscriptions::Subscriptions;
 use std::alloc::Global;
-
-/// How a command ended.
-#[derive(Clone, Copy, Debug, PartialEq, Eq)]
-pub enum StepEnd {
-    /// It was met, and its text was put.
-    Met,
-    /// A cause stood in its way, and the line that names it was put.
-    Unmet(Unmet),
-    /// A fetch, a store or a put failed.
-    Fault,
-    /// Memory ran out.
-    NoMemory,
-}
 
 /// Why a command was not run to its end. It had no effect then.
 #[derive(Clone, Copy, Debug, PartialEq, Eq)]
-pub enum Stop {
+pub(crate) enum Stop {
     /// Its own fetch or store failed.
     Fault,
     /// Memory ran out.
     NoMemory,
 }
 
-/// A network of one of the kinds.
+/// What is in place: a network, and the names of its inputs and outputs.
 #[derive(Drop)]
-pub enum AnyNet {
-    /// An and-inverter graph.
-    Aig(Network),
+pub(crate) struct Place {
+    pub(crate) network: AnyNet,
+    pub(crate) names: Names,
 }
 
-/// What a session is given beside files and a sink. There is nothing to give yet.
+/// What a session is given beside files and a sink.
 #[derive(Drop)]
-pub struct Kit {}
+pub struct Kit {
+    /// The views that can be attached, detached, in the order of the shelf.
+    pub views: Vec<Box<dyn View>>,
+}
 
 /// The state between two commands.
 #[derive(Drop)]
 pub struct Session {
-    network: Option<AnyNet>,
+    pub(crate) place: Option<Place>,
+    pub(crate) views: Subscriptions,
 }
 
 impl Session {
-    ghost use Rattle.lnet_session.specs.Sessions.{state_of, network_in};
-
-    /// A session without a network.
-    pub fn new(_alloc: Global, _kit: Kit) -> Session
-        ensures { (state_of result).network ≡ None }
+    /// A session in which nothing is in place, with the kit's views on the shelf. It takes no memory.
+    pub fn new(alloc: Global, kit: Kit) -> Session
+        requires detached { AreDetached spec_of kit.views.items }
+        ensures state { state_of (λ b. ⟦<dyn View as View>⟧ b.vtable) result ≡ record { held = None; roll = record { live = []; next = 1; shelf = map kind_of kit.views.items } } }
+        ensures good { IsGood (λ b. ⟦<dyn View as View>⟧ b.vtable) result }
     {
-        Session { network: None }
+        Session {
+            place: None,
+            views: Subscriptions {
+                live: Vec::new(alloc),
+                ids: Vec::new(alloc),
+                next: 1,
+                shelf: kit.views,
+            },
+        }
     }
 
-    /// The network, None exactly where none is in place.
+    /// The network, None exactly where none is in place. Constant time.
     pub fn network(&self) -> Option<&AnyNet>
-        ensures { MatchOption result ((state_of self.now).network ≡ None) (λ n. (state_of self.now).network ≡ Some (network_in n.now)) }
+        ensures { option_map (λ n. network_in n.now) result ≡ option_map (λ h. h.network) (state_of (λ b. ⟦<dyn View as View>⟧ b.vtable) self.now).held }
     {
-        self.network.as_ref()
+        match &self.place {
+            Some(place) => Some(&place.network),
+            None => None,
+        }
     }
 
-    /// Puts the network of the circuit that the bytes mean in place.
-    fn load(&mut self, alloc: Global, bytes: &[u8]) -> Result<Reply, Stop>
-        requires { length bytes.now ≤ file_limit }
-        ensures reads { IfOk result (λ answer. (source : Option CircuitValue) × Reads (state_of self.old) bytes.now answer source (state_of self.new)) }
-        ensures err { OnErr result (state_of self.new ≡ state_of self.old) }
+    /// The names of the network's inputs and outputs, None exactly where no network is in place. Constant time.
+    pub fn names(&self) -> Option<&Names>
+        ensures { option_map (λ n. n.now) result ≡ option_map (λ h. h.names) (state_of (λ b. ⟦<dyn View as View>⟧ b.vtable) self.now).held }
+    {
+        match &self.place {
+            Some(place) => Some(&place.names),
+            None => None,
+        }
+    }
+
+    /// The number that the next view gets. Constant time.
+    pub fn next_view(&self) -> u32
+        ensures { result ≡ (state_of (λ b. ⟦<dyn View as View>⟧ b.vtable) self.now).roll.next }
+    {
+        self.views.next()
+    }
+
+    /// The live views, each by its number and spec, ascending. Constant time.
+    pub fn live(&self) -> &[(u32, ViewSpec)]
+        ensures { result.now ≡ (state_of (λ b. ⟦<dyn View as View>⟧ b.vtable) self.now).roll.live }
+    {
+        self.views.live()
+    }
+
+    /// Puts all live views on the shelf.
+    fn shelve_views(&mut self) -> Result<(), Stop>
+        requires good { IsGood (λ b. ⟦<dyn View as View>⟧ b.vtable) self.old }
+        ensures roll { OnOk result ((state_of (λ b. ⟦<dyn View as View>⟧ b.vtable) self.new).roll ≡ all_shelved (state_of (λ b. ⟦<dyn View as View>⟧ b.vtable) self.old).roll) }
+        ensures rest { OnOk result (IsAtRest (λ b. ⟦<dyn View as View>⟧ b.vtable) self.new) }
+        ensures err { OnErr result (state_of (λ b. ⟦<dyn View as View>⟧ b.vtable) self.new ≡ state_of (λ b. ⟦<dyn View as View>⟧ b.vtable) self.old) }
+        ensures good { OnErr result (IsGood (λ b. ⟦<dyn View as View>⟧ b.vtable) self.new) }
         ensures memory { IfErr result (λ stop. stop ≡ Stop.NoMemory) }
     {
-        let circuit = match read(alloc, bytes) {
-            Ok(circuit) => circuit,
-            Err(ReadError::Malformed(broken)) => {
-                return Ok(Reply::Unmet(Unmet::Malformed(broken.line, broken.kind)));
+        if let Some(place) = &mut self.place {
+            let shelved = self.views.shelve_all(&mut place.network);
+            return match shelved {
+                Ok(()) => Ok(()),
+                Err(_) => Err(Stop::NoMemory),
+            };
+        }
+        Ok(())
+    }
+
+    /// Puts a network without views in place, and all live views on the shelf; says its kind and counts.
+    pub(crate) fn put_in_place(&mut self, network: AnyNet, names: Names) -> Result<Reply, Stop>
+        requires good { IsGood (λ b. ⟦<dyn View as View>⟧ b.vtable) self.old }
+        requires none { views_in network ≡ [] }
+        requires sound { IsSound (form_of (network_in network).kind) (network_in network) }
+        requires names { FitNames (network_in network) names }
+        ensures held { OnOk result ((state_of (λ b. ⟦<dyn View as View>⟧ b.vtable) self.new).held ≡ Some (record { network = network_in network; names = names })) }
+        ensures roll { OnOk result ((state_of (λ b. ⟦<dyn View as View>⟧ b.vtable) self.new).roll ≡ all_shelved (state_of (λ b. ⟦<dyn View as View>⟧ b.vtable) self.old).roll) }
+        ensures reply { IfOk result (SaysCounts (network_in network)) }
+        ensures err { OnErr result (state_of (λ b. ⟦<dyn View as View>⟧ b.vtable) self.new ≡ state_of (λ b. ⟦<dyn View as View>⟧ b.vtable) self.old) }
+        ensures memory { IfErr result (λ stop. stop ≡ Stop.NoMemory) }
+        ensures good { IsGood (λ b. ⟦<dyn View as View>⟧ b.vtable) self.new }
+    {
+        match self.shelve_views() {
+            Ok(()) => {
+                let reply = counts_of(&network);
+                self.place = Some(Place { network, names });
+                Ok(reply)
             }
-            Err(ReadError::NoMemory) => return Err(Stop::NoMemory),
-        };
-        let Ok(network) = build(alloc, &circuit) else {
-            return Err(Stop::NoMemory);
-        };
-        let answer = Reply::Network {
-            inputs: network.input_count(),
-            outputs: network.output_count(),
-            gates: network.gate_count(),
-        };
-        self.network = Some(AnyNet::Aig(network));
-        Ok(answer)
-    }
-
-    /// Fetches the file and puts its network in place.
-    fn read_file<F: Files>(
-        &mut self,
-        alloc: Global,
-        name: &Name,
-        files: &mut F,
-    ) -> Result<Reply, Stop>
-        ensures reads { IfOk result (λ answer. (bytes : List ℕ) × Holds (F.contents files.old) name.now bytes × ((source : Option CircuitValue) × Reads (state_of self.old) bytes answer source (state_of self.new))) }
-        ensures contents { F.contents files.new ≡ F.contents files.old }
-        ensures err { OnErr result (state_of self.new ≡ state_of self.old) }
-        ensures later { F.faults files.old ≤ F.faults files.new }
-        ensures fault { IsErrOf result Stop.Fault → Rose (F.faults files.old) (F.faults files.new) }
-        ensures last { IsErrOf result Stop.Fault → F.last files.new ≡ Some (call_of Fetch name.now) }
-    {
-        match files.fetch(alloc, name.as_str()) {
-            Ok(bytes) => self.load(alloc, &bytes),
-            Err(FetchError::TooLong) => Ok(Reply::Unmet(Unmet::TooLong)),
-            Err(FetchError::Failed) => Err(Stop::Fault),
-            Err(FetchError::NoMemory) => Err(Stop::NoMemory),
-        }
-    }
-
-    /// Stores the text of the network under the name.
-    fn write_file<F: Files>(&self, alloc: Global, name: &Name, files: &mut F) -> Result<Reply, Stop>
-        ensures writes { IfOk result (λ answer. Writes (state_of self.now).network (F.contents files.old) name.now answer (F.contents files.new)) }
-        ensures err { OnErr result (F.contents files.new ≡ F.contents files.old) }
-        ensures later { F.faults files.old ≤ F.faults files.new }
-        ensures allowed { IsErrOf result Stop.Fault → IsSome (state_of self.now).network }
-        ensures fault { IsErrOf result Stop.Fault → Rose (F.faults files.old) (F.faults files.new) }
-        ensures last { IsErrOf result Stop.Fault → F.last files.new ≡ Some (call_of Store name.now) }
-    {
-        let Some(AnyNet::Aig(network)) = &self.network else {
-            return Ok(Reply::Unmet(Unmet::NoNetwork));
-        };
-        let Ok(circuit) = export(alloc, network) else {
-            return Err(Stop::NoMemory);
-        };
-        let Ok(text) = write_ascii(alloc, &circuit) else {
-            return Err(Stop::NoMemory);
-        };
-        match files.store(name.as_str(), &text) {
-            Ok(()) => Ok(Reply::Wrote(text.len())),
-            Err(PutError::Failed) => Err(Stop::Fault),
-            Err(PutError::NoMemory) => Err(Stop::NoMemory),
-        }
-    }
-
-    /// What the command does before its line is put, and what it answers.
-    fn effect<F: Files>(
-        &mut self,
-        alloc: Global,
-        command: &Command,
-        files: &mut F,
-    ) -> Result<Reply, Stop>
-        ensures effect { IfOk result (λ answer. (source : Option CircuitValue) × Effect (state_of self.old) (F.contents files.old) command.now answer source (state_of self.new) (F.contents files.new)) }
-        ensures state { OnErr result (state_of self.new ≡ state_of self.old) }
-        ensures contents { OnErr result (F.contents files.new ≡ F.contents files.old) }
-        ensures later { F.faults files.old ≤ F.faults files.new }
-        ensures allowed { IsErrOf result Stop.Fault → MakesCall command.now (state_of self.old) }
-        ensures fault { IsErrOf result Stop.Fault → Rose (F.faults files.old) (F.faults files.new) }
-        ensures last { IsErrOf result Stop.Fault → F.last files.new ≡ Some (own_call command.now) }
-    {
-        match command {
-            Command::Read(_, name) => self.read_file(alloc, name, files),
-            Command::Write(_, name) => self.write_file(alloc, name, files),
-        }
-    }
-
-    /// Runs one command and puts its text: one line, in one piece, after the command's effect.
-    ///
-    /// The index counts the commands of the script from 1 and stands in the line of an unmet command.
-    /// After `Unmet` the session and the files' contents are as before. After `Fault` of a fetch or a store they are
-    /// as before too; after `Fault` of the put the command's effect stands. After `NoMemory` they are as before, or
-    /// the command's whole effect stands; nothing was put.
-    pub fn step<F: Files, S: Sink>(
-        &mut self,
-        alloc: Global,
-        command: &Command,
-        index: u32,
-        files: &mut F,
-        out: &mut S,
-    ) -> StepEnd
-        ensures step { Steps command.now index result
-            (record { state = state_of self.old; contents = F.contents files.old; written = S.written out.old; file_faults = F.faults files.old; last = F.last files.old; sink_faults = S.faults out.old })
-            (record { state = state_of self.new; contents = F.contents files.new; written = S.written out.new; file_faults = F.faults files.new; last = F.last files.new; sink_faults = S.faults out.new }) }
-        ensures file_faults { F.faults files.old ≤ F.faults files.new }
-        ensures sink_faults { S.faults out.old ≤ S.faults out.new }
-        ensures kept { KeepsOutputs command.now (state_of self.old) (state_of self.new) }
-    {
-        let answer = match self.effect(alloc, command, files) {
-            Ok(answer) => answer,
-            Err(Stop::Fault) => return StepEnd::Fault,
-            Err(Stop::NoMemory) => return StepEnd::NoMemory,
-        };
-        let Ok(text) = text_of_reply(alloc, index, answer) else {
-            return StepEnd::NoMemory;
-        };
-        match out.put(text.as_bytes()) {
-            Ok(()) => end(answer),
-            Err(PutError::Failed) => StepEnd::Fault,
-            Err(PutError::NoMemory) => StepEnd::NoMemory,
+            Err(stop) => Err(stop),
         }
     }
 }
 
-/// How a command ends whose line was put.
-fn end(answer: Reply) -> StepEnd
-    ensures { result ≡ end_of answer }
+/// The kind and the counts of a network.
+fn counts_of(network: &AnyNet) -> Reply
+    ensures { SaysCounts (network_in network.now) result }
 {
-    match answer {
-        Reply::Network { .. } | Reply::Wrote(_) => StepEnd::Met,
-        Reply::Unmet(cause) => StepEnd::Unmet(cause),
+    Reply::Network {
+        kind: network.kind(),
+        inputs: network.input_count(),
+        outputs: network.output_count(),
+        gates: network.gate_count(),
     }
 }

@@ -1,16 +1,18 @@
 //! The top call: the words of the command line, the script, and its run.
 
-ghost use Rattle.std.specs.Prelude.{◌≡◌, ◌⊎◌, List, ℕ, Option, Some, None, map, string_bytes, IfOk, MatchOption};
+ghost use Rattle.std.specs.Prelude.{◌≡◌, ◌≤◌, ◌⊎◌, [], List, ℕ, Option, Some, None, map, string_bytes, IfOk, MatchOption};
 ghost use Rattle.lnet_edge.specs.Outside.{Rose};
 ghost use Rattle.lnet_edge.specs.Circuits.{CircuitValue};
-ghost use Rattle.lnet_session.specs.Sessions.{state_of};
+ghost use Rattle.lnet_subscriptions.specs.Kept.{AreDetached};
+ghost use Rattle.lnet_session.specs.Sessions.{IsGood, state_of};
 ghost use Rattle.lnet_session.specs.Steps.{World, Grows, GrowsByPart};
 ghost use Rattle.lnet_session.specs.Ends.{EndsAs, IsOutcome, IsRefusedSomehow, IsFaulty, IsUnhindered, IsOrMemory, script_of, refusal_text, status_number, RefusesAs};
 
 use crate::running::{RunEnd, run_commands};
-use crate::script::{ScriptError, parse_script};
 use crate::session::{Kit, Session};
 use lnet_edge::{Files, PutError, Sink};
+use lnet_script::{ScriptError, parse_script};
+use lnet_store::View;
 use std::alloc::{AllocError, Global};
 
 /// Why nothing was run.
@@ -92,9 +94,12 @@ fn run_words<F: Files, S: Sink>(
     files: &mut F,
     out: &mut S,
 ) -> Ending
-    ensures { (origin : Option CircuitValue) × EndsAs (map string_bytes words.now) result
-        (record { state = state_of session.old; contents = F.contents files.old; written = S.written out.old; file_faults = F.faults files.old; last = F.last files.old; sink_faults = S.faults out.old })
-        (record { state = state_of session.new; contents = F.contents files.new; written = S.written out.new; file_faults = F.faults files.new; last = F.last files.new; sink_faults = S.faults out.new }) origin }
+    requires next { (state_of (λ b. ⟦<dyn View as View>⟧ b.vtable) session.old).roll.next ≤ 1 }
+    requires good { IsGood (λ b. ⟦<dyn View as View>⟧ b.vtable) session.old }
+    ensures good { IsGood (λ b. ⟦<dyn View as View>⟧ b.vtable) session.new }
+    ensures ends { (origin : Option CircuitValue) × EndsAs (map string_bytes words.now) result
+        (record { state = state_of (λ b. ⟦<dyn View as View>⟧ b.vtable) session.old; contents = F.contents files.old; written = S.written out.old; file_faults = F.faults files.old; last = F.last files.old; sink_faults = S.faults out.old })
+        (record { state = state_of (λ b. ⟦<dyn View as View>⟧ b.vtable) session.new; contents = F.contents files.new; written = S.written out.new; file_faults = F.faults files.new; last = F.last files.new; sink_faults = S.faults out.new }) origin }
 {
     let Some(script) = script_word(words) else {
         return refuse(alloc, Refusal::Words, out);
@@ -132,21 +137,25 @@ pub fn run<F: Files, S: Sink>(
     out: &mut S,
     kit: Kit,
 ) -> Outcome
+    requires detached { AreDetached spec_of kit.views.items }
     // How the run went, what it put, and that each output of the network that it leaves computes the same function as
     // in the file last read.
     ensures outcome { IsOutcome (map string_bytes words.now) result.status
-        (record { state = record { network = None }; contents = F.contents files.old; written = S.written out.old; file_faults = F.faults files.old; last = F.last files.old; sink_faults = S.faults out.old })
-        (record { state = state_of result.session; contents = F.contents files.new; written = S.written out.new; file_faults = F.faults files.new; last = F.last files.new; sink_faults = S.faults out.new }) }
+        (record { state = record { held = None; roll = record { live = []; next = 1; shelf = map kind_of kit.views.items } }; contents = F.contents files.old; written = S.written out.old; file_faults = F.faults files.old; last = F.last files.old; sink_faults = S.faults out.old })
+        (record { state = state_of (λ b. ⟦<dyn View as View>⟧ b.vtable) result.session; contents = F.contents files.new; written = S.written out.new; file_faults = F.faults files.new; last = F.last files.new; sink_faults = S.faults out.new }) }
+
+    // The network that it leaves has no cycle, and each live view answers as computed from it.
+    ensures good { IsGood (λ b. ⟦<dyn View as View>⟧ b.vtable) result.session }
 
     // When a refusal, a fault and success come.
     ensures refused { result.status ≡ 2 → IsRefusedSomehow (map string_bytes words.now) }
     ensures refuses { IsRefusedSomehow (map string_bytes words.now) → (result.status ≡ 2) ⊎ IsOrMemory 3 result.status }
     ensures fault { result.status ≡ 3 → IsFaulty (map string_bytes words.now)
-        (record { state = record { network = None }; contents = F.contents files.old; written = S.written out.old; file_faults = F.faults files.old; last = F.last files.old; sink_faults = S.faults out.old })
-        (record { state = state_of result.session; contents = F.contents files.new; written = S.written out.new; file_faults = F.faults files.new; last = F.last files.new; sink_faults = S.faults out.new }) }
+        (record { state = record { held = None; roll = record { live = []; next = 1; shelf = map kind_of kit.views.items } }; contents = F.contents files.old; written = S.written out.old; file_faults = F.faults files.old; last = F.last files.old; sink_faults = S.faults out.old })
+        (record { state = state_of (λ b. ⟦<dyn View as View>⟧ b.vtable) result.session; contents = F.contents files.new; written = S.written out.new; file_faults = F.faults files.new; last = F.last files.new; sink_faults = S.faults out.new }) }
     ensures complete { IsUnhindered (map string_bytes words.now)
-        (record { state = record { network = None }; contents = F.contents files.old; written = S.written out.old; file_faults = F.faults files.old; last = F.last files.old; sink_faults = S.faults out.old })
-        (record { state = state_of result.session; contents = F.contents files.new; written = S.written out.new; file_faults = F.faults files.new; last = F.last files.new; sink_faults = S.faults out.new }) → IsOrMemory 0 result.status }
+        (record { state = record { held = None; roll = record { live = []; next = 1; shelf = map kind_of kit.views.items } }; contents = F.contents files.old; written = S.written out.old; file_faults = F.faults files.old; last = F.last files.old; sink_faults = S.faults out.old })
+        (record { state = state_of (λ b. ⟦<dyn View as View>⟧ b.vtable) result.session; contents = F.contents files.new; written = S.written out.new; file_faults = F.faults files.new; last = F.last files.new; sink_faults = S.faults out.new }) → IsOrMemory 0 result.status }
 {
     let mut session = Session::new(alloc, kit);
     let ending = run_words(alloc, words, &mut session, files, out);

@@ -3,6 +3,8 @@
 
 use lnet_edge::{DiskFiles, StdSink};
 use lnet_session::{Kit, run};
+use lnet_store::View;
+use lnet_views::DepthView;
 use std::process::ExitCode;
 use std::{env, io};
 
@@ -11,6 +13,12 @@ fn main(rt: HostRuntime) -> io::Result<ExitCode> {
     let words = env::args(&rt)?.collect::<Vec<String>>(alloc)?;
     let mut files = DiskFiles::new(rt.clone()?);
     let mut out = StdSink::new(rt.clone()?);
-    let outcome = run(alloc, &words, &mut files, &mut out, Kit {});
+    // A kit of two depth views.
+    let first: Box<dyn View> = Box::new(alloc, DepthView::new(alloc)?)?;
+    let second: Box<dyn View> = Box::new(alloc, DepthView::new(alloc)?)?;
+    let mut views = Vec::new(alloc);
+    views.push(first)?;
+    views.push(second)?;
+    let outcome = run(alloc, &words, &mut files, &mut out, Kit { views });
     Ok(ExitCode::from(outcome.status))
 }

@@ -1,21 +1,12 @@
-use Rattle.std.proofs.Common.{length, Some, refl, ap, ◌∙◌}
-use Rattle.lnet_model.specs.Networks.{NetworkValue, gate_count}
+use Rattle.std.proofs.Common.{None, Err, refl, ap, ◌∙◌}
+use Rattle.lnet_session.specs.Sessions.{state_of}
+use Rattle.lnet_session.proofs.Placed.{reads}
 use Rattle.lnet_session.proofs.session.Session.load.Goals as goal
 
-pub returns-clause-reads : goal.returns-clause-reads
-returns-clause-reads c =
-    let same = c.in-Ok-build.ensures.built in (
-      Some c.in-Ok.circuit,
-      (
-        c.in-Ok.circuit,
-        refl,
-        record {
-          short = c.requires;
-          means = c.in-Ok.ensures.found;
-          network = ap Some same;
-          inputs_are = c.input_count.ensures ∙ ap (λ (n : NetworkValue). length n.inputs) same;
-          outputs_are = c.output_count.ensures ∙ ap (λ (n : NetworkValue). length n.outputs) same;
-          gates_are = c.gate_count.ensures ∙ ap gate_count same;
-        },
-      ),
-    )
+pub returns-in-Ok-clause-reads : goal.returns-in-Ok-clause-reads
+returns-in-Ok-clause-reads g c =
+    reads c.place_circuit.result (state_of (λ b. goal.View-dyn g (b.vtable, b.value)) c.args.self.now) (state_of (λ b. goal.View-dyn g (b.vtable, b.value)) c.place_circuit.new.self) c.args.format c.args.kind c.args.bytes.now c.in-Ok.circuit c.requires.short c.in-Ok.ensures.means c.place_circuit.ensures.places
+
+pub returns-in-Err-Malformed-clause-reads : goal.returns-in-Err-Malformed-clause-reads
+returns-in-Err-Malformed-clause-reads g c =
+    rw c.in-Err-Malformed.field-0-is (None, (refl, c.requires.short, c.circuit_of.ensures.malformed c.in-Err-Malformed.broken (c.in-Err-Malformed.is ∙ ap Err c.in-Err-Malformed.field-0-is), refl))

@@ -1,4 +1,0 @@
-pub mod Spelling
-pub mod Meanings
-pub mod Reading
-pub mod Views

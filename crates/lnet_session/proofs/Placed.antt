@@ -1,0 +1,123 @@
+-- What a command that puts a network in place, and one that writes it, are found to have done.
+use Rattle.std.proofs.Common.{◌≡◌, ℕ, ◌≤◌, Bool, List, length, map, All, Option, Some, None, Result, Ok, Err, refl, sym, ap, subst, ◌∙◌}
+use Rattle.std.specs.Prelude.{IfOk, OnOk}
+use Rattle.lnet_gates.specs.declared.gate.Kind.{Kind}
+use Rattle.lnet_gates.specs.declared.gate.Kind.TheVariants.{Aig}
+use Rattle.lnet_model.specs.Networks.{NetworkValue}
+use Rattle.lnet_model.specs.Values.{network_outputs}
+use Rattle.lnet_edge.specs.Outside.{Contents, file_limit}
+use Rattle.lnet_edge.specs.Circuits.{CircuitValue}
+use Rattle.lnet_edge.specs.Values.{circuit_outputs}
+use Rattle.lnet_aiger.specs.Texts.{input_names, output_names}
+use Rattle.lnet_aiger.specs.Written.{MeansSame}
+use Rattle.lnet_build.specs.Built.{names_of}
+use Rattle.lnet_export.specs.Exported.{exported}
+use Rattle.lnet_any.specs.Forms.{form_of}
+use Rattle.lnet_names.specs.NameLists.{NamesValue}
+use Rattle.lnet_script.specs.declared.command.ReadFormat.{ReadFormat}
+use Rattle.lnet_script.specs.declared.command.WriteFormat.{WriteFormat}
+use Rattle.lnet_script.specs.declared.command.WriteFormat.TheVariants as writes
+use Rattle.lnet_replies.specs.declared.reply.Unmet.TheVariants as unmet
+use Rattle.lnet_replies.specs.declared.reply.Reply.{Reply}
+use Rattle.lnet_replies.specs.declared.reply.Reply.TheVariants as reply
+use Rattle.lnet_subscriptions.specs.Rolls.{all_shelved}
+use Rattle.lnet_session.specs.declared.session.Stop.{Stop}
+use Rattle.lnet_session.specs.States.{Held, State}
+use Rattle.lnet_session.specs.Made.{IsMadeOf}
+use Rattle.lnet_session.specs.Formats.{MeansIn, reader_of, text_in}
+use Rattle.lnet_session.specs.Effects.{AgreeOutputs, Converts, IsFull, MeansHeld, Places, PutsInPlace, Reads, SaysCounts, Writes, with_content, written_text}
+
+-- ---- a network put in place
+
+module _ (old new : State) (kind : Kind) (c : CircuitValue) (N : NetworkValue) (names : NamesValue) (made : IsMadeOf kind (form_of kind) c N) (is : names ≡ names_of c) (held : new.held ≡ Some (record { network = N; names = names })) (roll : new.roll ≡ all_shelved old.roll) where
+  placed : (answer : Reply) → SaysCounts N answer → Places old kind c answer new
+  placed (reply.Network k i o g) says = record {
+    network = N;
+    made = made;
+    held = held ∙ ap (λ (ns : NamesValue). Some (record { network = N; names = ns })) is;
+    roll = roll;
+    kind_is = says.0 ∙ made.kind_is;
+    inputs_are = says.1;
+    outputs_are = says.2;
+    gates_are = says.3;
+  }
+  placed (reply.Wrote n) says = absurd says
+  placed (reply.Viewed v asked) says = absurd says
+  placed (reply.Dropped v) says = absurd says
+  placed (reply.Level node l) says = absurd says
+  placed (reply.Printed t) says = absurd says
+  placed (reply.Stats k i o g d) says = absurd says
+  placed (reply.Unmet cause) says = absurd says
+
+pub places : (r : Result Reply Stop) (old new : State) (kind : Kind) (c : CircuitValue) (N : NetworkValue) (names : NamesValue) → IsMadeOf kind (form_of kind) c N → names ≡ names_of c → OnOk r (new.held ≡ Some (record { network = N; names = names })) → OnOk r (new.roll ≡ all_shelved old.roll) → IfOk r (SaysCounts N) → IfOk r (λ answer. Places old kind c answer new)
+places (Err e) old new kind c N names made is held roll says = tt
+places (Ok answer) old new kind c N names made is held roll says = placed old new kind c N names made is held roll answer says
+
+-- ---- a network of a file
+
+reads-one : (old new : State) (format : ReadFormat) (kind : Kind) (bytes : List ℕ) (c : CircuitValue) → length bytes ≤ file_limit → MeansIn format bytes c → (answer : Reply) → Places old kind c answer new → (source : Option CircuitValue) × Reads old format kind bytes answer source new
+reads-one old new format kind bytes c short means (reply.Network k i o g) p = (Some c, (short, (c, refl, means, p)))
+reads-one old new format kind bytes c short means (reply.Wrote n) p = absurd p
+reads-one old new format kind bytes c short means (reply.Viewed v asked) p = absurd p
+reads-one old new format kind bytes c short means (reply.Dropped v) p = absurd p
+reads-one old new format kind bytes c short means (reply.Level node l) p = absurd p
+reads-one old new format kind bytes c short means (reply.Printed t) p = absurd p
+reads-one old new format kind bytes c short means (reply.Stats k i o g d) p = absurd p
+reads-one old new format kind bytes c short means (reply.Unmet unmet.NoNetwork) p = absurd p
+reads-one old new format kind bytes c short means (reply.Unmet (unmet.Malformed line fault)) p = absurd p
+reads-one old new format kind bytes c short means (reply.Unmet unmet.TooLong) p = absurd p
+reads-one old new format kind bytes c short means (reply.Unmet unmet.Full) p = (None, (refl, short, (c, means, p)))
+reads-one old new format kind bytes c short means (reply.Unmet unmet.NoView) p = absurd p
+reads-one old new format kind bytes c short means (reply.Unmet unmet.ShelfEmpty) p = absurd p
+reads-one old new format kind bytes c short means (reply.Unmet unmet.NoNode) p = absurd p
+reads-one old new format kind bytes c short means (reply.Unmet unmet.WrongKind) p = absurd p
+
+pub reads : (r : Result Reply Stop) (old new : State) (format : ReadFormat) (kind : Kind) (bytes : List ℕ) (c : CircuitValue) → length bytes ≤ file_limit → MeansIn format bytes c → IfOk r (λ answer. Places old kind c answer new) → IfOk r (λ answer. (source : Option CircuitValue) × Reads old format kind bytes answer source new)
+reads (Err e) old new format kind bytes c short means p = tt
+reads (Ok answer) old new format kind bytes c short means p = reads-one old new format kind bytes c short means answer p
+
+-- ---- a network of another kind
+
+agree : (o n : Option Held) (h k : Held) → o ≡ Some h → n ≡ Some k → ((a : ℕ → Bool) → network_outputs k.network a ≡ network_outputs h.network a) → AgreeOutputs o n
+agree o n h k is also same = subst (λ (o : Option Held). AgreeOutputs o n) (sym is) (subst (λ (n : Option Held). AgreeOutputs (Some h) n) (sym also) same)
+
+module _ (old new : State) (h : Held) (kind : Kind) (c : CircuitValue) (held : old.held ≡ Some h) (is : c ≡ exported h.network h.names) (outputs : (a : ℕ → Bool) → circuit_outputs c a ≡ network_outputs h.network a) where
+  converts-one : (answer : Reply) → Places old kind c answer new → Converts old (Some h) kind answer new
+  converts-one (reply.Network k i o g) p = (subst (λ (d : CircuitValue). PutsInPlace kind d k i o g old new) is p, agree old.held new.held h (record { network = p.network; names = names_of c }) held p.held (λ a. p.made.values a ∙ outputs a))
+  converts-one (reply.Wrote n) p = absurd p
+  converts-one (reply.Viewed v asked) p = absurd p
+  converts-one (reply.Dropped v) p = absurd p
+  converts-one (reply.Level node l) p = absurd p
+  converts-one (reply.Printed t) p = absurd p
+  converts-one (reply.Stats k i o g d) p = absurd p
+  converts-one (reply.Unmet unmet.NoNetwork) p = absurd p
+  converts-one (reply.Unmet (unmet.Malformed line fault)) p = absurd p
+  converts-one (reply.Unmet unmet.TooLong) p = absurd p
+  converts-one (reply.Unmet unmet.Full) p = subst (λ (d : CircuitValue). IsFull kind d old new) is p
+  converts-one (reply.Unmet unmet.NoView) p = absurd p
+  converts-one (reply.Unmet unmet.ShelfEmpty) p = absurd p
+  converts-one (reply.Unmet unmet.NoNode) p = absurd p
+  converts-one (reply.Unmet unmet.WrongKind) p = absurd p
+
+pub converts : (r : Result Reply Stop) (old new : State) (h : Held) (kind : Kind) (c : CircuitValue) → old.held ≡ Some h → c ≡ exported h.network h.names → ((a : ℕ → Bool) → circuit_outputs c a ≡ network_outputs h.network a) → IfOk r (λ answer. Places old kind c answer new) → IfOk r (λ answer. Converts old old.held kind answer new)
+converts (Err e) old new h kind c held is outputs p = tt
+converts (Ok answer) old new h kind c held is outputs p = subst (λ (o : Option Held). Converts old o kind answer new) (sym held) (converts-one old new h kind c held is outputs answer p)
+
+-- ---- a network written
+
+means-in : (format : WriteFormat) (text : List ℕ) (c : CircuitValue) (m : MeansSame text c) → MeansIn (reader_of format) text m.circuit
+means-in writes.Aag text c m = m.means
+means-in writes.Aig text c m = m.means
+
+pub writes-held : (format : WriteFormat) (o : Option Held) (h : Held) (before after : Option Contents) (name : List ℕ) (c : CircuitValue) (text : List ℕ) (n : ℕ) → o ≡ Some h → h.network.kind ≡ Aig → c ≡ exported h.network h.names → ((a : ℕ → Bool) → circuit_outputs c a ≡ network_outputs h.network a) → input_names c.inputs ≡ h.names.inputs → output_names c.outputs ≡ h.names.outputs → text ≡ text_in format c → MeansSame text c → n ≡ length text → after ≡ with_content before name text → Writes format o before name (reply.Wrote n) after
+writes-held format o h before after name c text n is kind exports outputs ins outs text-is m count stored =
+    let t : text ≡ written_text format h = text-is ∙ ap (text_in format) exports in
+    let means : MeansHeld (reader_of format) text h = record {
+      circuit = m.circuit;
+      means = means-in format text c m;
+      outputs = λ a. m.outputs a ∙ outputs a;
+      inputs_named = m.inputs_named ∙ ins;
+      outputs_named = m.outputs_named ∙ outs;
+    } in
+    subst (λ (o : Option Held). Writes format o before name (reply.Wrote n) after) (sym is)
+    (kind, count ∙ ap (λ (ts : List ℕ). length ts) t, stored ∙ ap (with_content before name) t, subst (λ ts. MeansHeld (reader_of format) ts h) t means)

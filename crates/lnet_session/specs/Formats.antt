@@ -1,0 +1,37 @@
+-- The formats of a script: what a content means in one that is read, which rule it breaks, and what is written in one.
+use Rattle.std.specs.Prelude.{ℕ, List}
+use Rattle.lnet_edge.specs.Circuits.{CircuitValue}
+use Rattle.lnet_edge.specs.declared.fault.Malformed.{Malformed}
+use Rattle.lnet_aiger.specs.Grammar as aiger
+use Rattle.lnet_aiger.specs.Faults as aiger_faults
+use Rattle.lnet_aiger.specs.Texts.{ascii_text, binary_text}
+use Rattle.lnet_bench.specs.Meanings as bench
+use Rattle.lnet_script.specs.declared.command.ReadFormat.{ReadFormat}
+use Rattle.lnet_script.specs.declared.command.ReadFormat.TheVariants as reads
+use Rattle.lnet_script.specs.declared.command.WriteFormat.{WriteFormat}
+use Rattle.lnet_script.specs.declared.command.WriteFormat.TheVariants as writes
+
+-- the bytes mean the circuit in the format
+abbrev pub MeansIn : ReadFormat → List ℕ → CircuitValue → Type 0
+MeansIn reads.Aiger bytes c = aiger.Means bytes c
+MeansIn reads.Bench bytes c = bench.Means bytes c
+
+-- the first rule of the format that the bytes break, and its line
+abbrev pub IsFaultIn : ReadFormat → List ℕ → Malformed → Type 0
+IsFaultIn reads.Aiger bytes m = aiger_faults.IsFault bytes m
+IsFaultIn reads.Bench bytes m = bench.IsFault bytes m
+
+-- the bytes mean no circuit in the format, and this is the first rule that they break
+pub record IsMalformed (format : ReadFormat) (bytes : List ℕ) (m : Malformed) : Type 0 where
+  pub fault : IsFaultIn format bytes m
+  pub none : (c : CircuitValue) → MeansIn format bytes c → ⊥
+
+-- the format in which what is written is read again
+abbrev pub reader_of : WriteFormat → ReadFormat
+reader_of writes.Aag = reads.Aiger
+reader_of writes.Aig = reads.Aiger
+
+-- the text of a circuit in the format
+abbrev pub text_in : WriteFormat → CircuitValue → List ℕ
+text_in writes.Aag c = ascii_text c
+text_in writes.Aig c = binary_text c

@@ -1,0 +1,134 @@
+//! The commands that put a network in place: of a file, and of another kind.
+
+ghost use Rattle.std.specs.Prelude.{◌≡◌, ◌≤◌, ℕ, List, Option, length, IfOk, IfErr, OnErr, IsErrOf, Err, Some};
+ghost use Rattle.lnet_edge.specs.Circuits.{CircuitValue};
+ghost use Rattle.lnet_edge.specs.declared.fault.Malformed.{Malformed as MalformedValue};
+ghost use Rattle.lnet_edge.specs.Outside.{Rose, call_of, file_limit};
+ghost use Rattle.lnet_edge.specs.declared.outside.Direction.TheVariants.{Fetch};
+ghost use Rattle.lnet_session.specs.Effects.{Converts, Holds, Places, Reads};
+ghost use Rattle.lnet_session.specs.Formats.{IsMalformed, MeansIn};
+ghost use Rattle.lnet_session.specs.Sessions.{IsGood, state_of};
+
+use crate::circuits::{build, export};
+use crate::session::{Session, Stop};
+use lnet_aiger::{ReadError as AigerError, read as read_aiger};
+use lnet_bench::{ReadError as BenchError, read as read_bench};
+use lnet_edge::{Circuit, FetchError, Files, Malformed, Name};
+use lnet_gates::Kind;
+use lnet_replies::{Reply, Unmet};
+use lnet_script::ReadFormat;
+use lnet_store::{AddError, View};
+use std::alloc::Global;
+
+/// Why a content gave no circuit.
+#[derive(Clone, Copy)]
+enum LoadError {
+    /// It means none.
+    Malformed(Malformed),
+    /// Memory ran out.
+    NoMemory,
+}
+
+/// The circuit that the bytes mean in the format.
+fn circuit_of(alloc: Global, format: ReadFormat, bytes: &[u8]) -> Result<Circuit, LoadError>
+    requires { length bytes.now ≤ file_limit }
+    ensures means { IfOk result (MeansIn format bytes.now) }
+    ensures malformed { (m : MalformedValue) → result ≡ Err (LoadError.Malformed m) → IsMalformed format bytes.now m }
+{
+    match format {
+        ReadFormat::Aiger => match read_aiger(alloc, bytes) {
+            Ok(circuit) => Ok(circuit),
+            Err(AigerError::Malformed(broken)) => Err(LoadError::Malformed(broken)),
+            Err(AigerError::NoMemory) => Err(LoadError::NoMemory),
+        },
+        ReadFormat::Bench => match read_bench(alloc, bytes) {
+            Ok(circuit) => Ok(circuit),
+            Err(BenchError::Malformed(broken)) => Err(LoadError::Malformed(broken)),
+            Err(BenchError::NoMemory) => Err(LoadError::NoMemory),
+        },
+    }
+}
+
+impl Session {
+    /// Builds the network of the circuit in this kind, and puts it in place.
+    fn place_circuit(&mut self, alloc: Global, kind: Kind, circuit: &Circuit) -> Result<Reply, Stop>
+        requires good { IsGood (λ b. ⟦<dyn View as View>⟧ b.vtable) self.old }
+        ensures places { IfOk result (λ answer. Places (state_of (λ b. ⟦<dyn View as View>⟧ b.vtable) self.old) kind circuit.now answer (state_of (λ b. ⟦<dyn View as View>⟧ b.vtable) self.new)) }
+        ensures err { OnErr result (state_of (λ b. ⟦<dyn View as View>⟧ b.vtable) self.new ≡ state_of (λ b. ⟦<dyn View as View>⟧ b.vtable) self.old) }
+        ensures memory { IfErr result (λ stop. stop ≡ Stop.NoMemory) }
+        ensures good { IsGood (λ b. ⟦<dyn View as View>⟧ b.vtable) self.new }
+    {
+        match build(alloc, kind, circuit) {
+            Ok((network, names)) => self.put_in_place(network, names),
+            Err(AddError::Full) => Ok(Reply::Unmet(Unmet::Full)),
+            Err(AddError::NoMemory) => Err(Stop::NoMemory),
+        }
+    }
+
+    /// Puts the network of the circuit that the bytes mean in place.
+    fn load(
+        &mut self,
+        alloc: Global,
+        format: ReadFormat,
+        kind: Kind,
+        bytes: &[u8],
+    ) -> Result<Reply, Stop>
+        requires short { length bytes.now ≤ file_limit }
+        requires good { IsGood (λ b. ⟦<dyn View as View>⟧ b.vtable) self.old }
+        ensures reads { IfOk result (λ answer. (source : Option CircuitValue) × Reads (state_of (λ b. ⟦<dyn View as View>⟧ b.vtable) self.old) format kind bytes.now answer source (state_of (λ b. ⟦<dyn View as View>⟧ b.vtable) self.new)) }
+        ensures err { OnErr result (state_of (λ b. ⟦<dyn View as View>⟧ b.vtable) self.new ≡ state_of (λ b. ⟦<dyn View as View>⟧ b.vtable) self.old) }
+        ensures memory { IfErr result (λ stop. stop ≡ Stop.NoMemory) }
+        ensures good { IsGood (λ b. ⟦<dyn View as View>⟧ b.vtable) self.new }
+    {
+        match circuit_of(alloc, format, bytes) {
+            Ok(circuit) => self.place_circuit(alloc, kind, &circuit),
+            Err(LoadError::Malformed(broken)) => {
+                Ok(Reply::Unmet(Unmet::Malformed(broken.line, broken.kind)))
+            }
+            Err(LoadError::NoMemory) => Err(Stop::NoMemory),
+        }
+    }
+
+    /// Puts the network of another kind in place that computes the same.
+    pub(crate) fn convert(&mut self, alloc: Global, kind: Kind) -> Result<Reply, Stop>
+        requires good { IsGood (λ b. ⟦<dyn View as View>⟧ b.vtable) self.old }
+        ensures converts { IfOk result (λ answer. Converts (state_of (λ b. ⟦<dyn View as View>⟧ b.vtable) self.old) (state_of (λ b. ⟦<dyn View as View>⟧ b.vtable) self.old).held kind answer (state_of (λ b. ⟦<dyn View as View>⟧ b.vtable) self.new)) }
+        ensures err { OnErr result (state_of (λ b. ⟦<dyn View as View>⟧ b.vtable) self.new ≡ state_of (λ b. ⟦<dyn View as View>⟧ b.vtable) self.old) }
+        ensures memory { IfErr result (λ stop. stop ≡ Stop.NoMemory) }
+        ensures good { IsGood (λ b. ⟦<dyn View as View>⟧ b.vtable) self.new }
+    {
+        let Some(place) = &self.place else {
+            return Ok(Reply::Unmet(Unmet::NoNetwork));
+        };
+        let Ok(circuit) = export(alloc, &place.network, &place.names) else {
+            return Err(Stop::NoMemory);
+        };
+        self.place_circuit(alloc, kind, &circuit)
+    }
+
+    /// Fetches the file and puts the network of its circuit in place.
+    pub(crate) fn read_file<F: Files>(
+        &mut self,
+        alloc: Global,
+        format: ReadFormat,
+        name: &Name,
+        kind: Kind,
+        files: &mut F,
+    ) -> Result<Reply, Stop>
+        requires good { IsGood (λ b. ⟦<dyn View as View>⟧ b.vtable) self.old }
+        ensures reads { IfOk result (λ answer. (bytes : List ℕ) × Holds (F.contents files.old) name.now bytes × ((source : Option CircuitValue) × Reads (state_of (λ b. ⟦<dyn View as View>⟧ b.vtable) self.old) format kind bytes answer source (state_of (λ b. ⟦<dyn View as View>⟧ b.vtable) self.new))) }
+        ensures contents { F.contents files.new ≡ F.contents files.old }
+        ensures err { OnErr result (state_of (λ b. ⟦<dyn View as View>⟧ b.vtable) self.new ≡ state_of (λ b. ⟦<dyn View as View>⟧ b.vtable) self.old) }
+        ensures later { F.faults files.old ≤ F.faults files.new }
+        ensures fault { IsErrOf result Stop.Fault → Rose (F.faults files.old) (F.faults files.new) }
+        ensures last { IsErrOf result Stop.Fault → F.last files.new ≡ Some (call_of Fetch name.now) }
+        ensures good { IsGood (λ b. ⟦<dyn View as View>⟧ b.vtable) self.new }
+    {
+        match files.fetch(alloc, name.as_str()) {
+            Ok(bytes) => self.load(alloc, format, kind, &bytes),
+            Err(FetchError::TooLong) => Ok(Reply::Unmet(Unmet::TooLong)),
+            Err(FetchError::Failed) => Err(Stop::Fault),
+            Err(FetchError::NoMemory) => Err(Stop::NoMemory),
+        }
+    }
+}

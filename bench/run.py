@@ -3,11 +3,11 @@
 
     bench/run.py [RUNS]     RUNS of each command, 7 where it is left out
 
-The two sizes are made here, always the same: 64 inputs, 32 outputs, and 6,000 or 60,000 And gates, each of two signals
+The two sizes are made here, always the same: 64 inputs, 32 outputs, and 600 or 6,000 And gates, each of two signals
 before it. What is timed is the built program without its launcher: the processor time of the user and the system
 together, the median of the runs, whose order goes round the commands so that a busy moment meets them all. The start of
 the program is the time of a file without inputs and gates, and is taken off before the second ratio is made. That ratio
-is near 10 where the time goes up with the size alone.
+is near 10 where the time goes up with the size alone, and near 100 where it goes up with its square.
 """
 import os
 import shutil
@@ -19,7 +19,7 @@ import tempfile
 TOP = os.path.dirname(os.path.dirname(os.path.abspath(__file__)))
 PROGRAM = os.path.join(TOP, "crates", "lognet", "out", "lognet")
 INPUTS, OUTPUTS = 64, 32
-SIZES = [6_000, 60_000]
+SIZES = [600, 6_000]
 EXAMPLES = ["one", "adder", "c17", "add64"]
 
 
@@ -87,7 +87,7 @@ def sizes(folder, runs):
     start = taken["start"]
     lines = [
         f"median of {runs} runs, processor time in milliseconds; the start alone {start:.2f}",
-        "commands | 6,000 gates | 60,000 gates | ratio | ratio without the start",
+        f"commands | {small:,} gates | {large:,} gates | ratio | ratio without the start",
     ]
     for what in ("read", "read, write"):
         a, b = taken[(what, small)], taken[(what, large)]

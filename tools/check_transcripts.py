@@ -16,7 +16,7 @@ import sys
 import tempfile
 
 TOP = os.path.dirname(os.path.dirname(os.path.abspath(__file__)))
-DOCUMENTS = ["README.md", "docs/MANUAL.md"]
+DOCUMENTS = ["README.md", "docs/MANUAL.md", "docs/FORMATS.md"]
 
 
 def blocks(text):

@@ -27,7 +27,29 @@ fn owned(alloc: Global, words: &[&str]) -> Result<Vec<String>, AllocError> {
     Ok(owned)
 }
 
-/// Runs the row's words over the files and two depth views, with a sink whose puts of these numbers fail, and compares what comes.
+/// Runs the words over the files and two depth views, with a sink whose puts of these numbers fail, and compares what comes.
+fn compare<R: Abort>(
+    rt: &R,
+    alloc: Global,
+    words: &[String],
+    transcript: &str,
+    status: u8,
+    files: &mut MemoryFiles,
+    failing_puts: Vec<u32>,
+) -> Result<(), AllocError> {
+    let mut out = MemorySink::new(alloc, failing_puts);
+    let first: Box<dyn View> = Box::new(alloc, DepthView::new(alloc)?)?;
+    let second: Box<dyn View> = Box::new(alloc, DepthView::new(alloc)?)?;
+    let mut views = Vec::new(alloc);
+    views.push(first)?;
+    views.push(second)?;
+    let outcome = run(alloc, words, files, &mut out, Kit { views });
+    assert_eq!(rt; out.written(), transcript.as_bytes());
+    assert_eq!(rt; outcome.status, status);
+    Ok(())
+}
+
+/// The same with the words of a row.
 fn check<R: Abort>(
     rt: &R,
     alloc: Global,
@@ -35,17 +57,16 @@ fn check<R: Abort>(
     files: &mut MemoryFiles,
     failing_puts: Vec<u32>,
 ) -> Result<(), AllocError> {
-    let mut out = MemorySink::new(alloc, failing_puts);
     let words = owned(alloc, row.words)?;
-    let first: Box<dyn View> = Box::new(alloc, DepthView::new(alloc)?)?;
-    let second: Box<dyn View> = Box::new(alloc, DepthView::new(alloc)?)?;
-    let mut views = Vec::new(alloc);
-    views.push(first)?;
-    views.push(second)?;
-    let outcome = run(alloc, &words, files, &mut out, Kit { views });
-    assert_eq!(rt; out.written(), row.transcript.as_bytes());
-    assert_eq!(rt; outcome.status, row.status);
-    Ok(())
+    compare(
+        rt,
+        alloc,
+        &words,
+        row.transcript,
+        row.status,
+        files,
+        failing_puts,
+    )
 }
 
 /// What is read and written again, with the greater operand first.
@@ -90,10 +111,7 @@ const ANSWERS: [Row; 15] = [
         status: 1,
     },
     Row {
-        words: &[
-            "lognet",
-            "read aiger n.aag xag; print; convert mig; print",
-        ],
+        words: &["lognet", "read aiger n.aag xag; print; convert mig; print"],
         transcript: "network xag inputs 2 outputs 1 gates 2\nnode 0 false\nnode 1 input 0\nnode 2 input 1\nnode 3 and 1 2\nnode 4 and !1 !3\noutput 0 !4\nnetwork mig inputs 2 outputs 1 gates 2\nnode 0 false\nnode 1 input 0\nnode 2 input 1\nnode 3 maj 0 1 2\nnode 4 maj !0 1 3\noutput 0 4\n",
         status: 0,
     },
@@ -150,7 +168,10 @@ const ANSWERS: [Row; 15] = [
         status: 0,
     },
     Row {
-        words: &["lognet", "read aiger one.aag aig # first\n\twrite aag x ;\nfrob"],
+        words: &[
+            "lognet",
+            "read aiger one.aag aig # first\n\twrite aag x ;\nfrob",
+        ],
         transcript: "error script 3\n",
         status: 2,
     },
@@ -184,7 +205,10 @@ fn answers(rt: HostRuntime) -> Result<(), Fail> {
         files.set("one.aag", ONE)?;
         files.set("no.aag", b"aag 0 0 0 1 0")?;
         files.set("n.aag", TWO)?;
-        files.set("y.bench", b"INPUT(a)\nINPUT(b)\nOUTPUT(y)\ny = NAND(a, b)\n")?;
+        files.set(
+            "y.bench",
+            b"INPUT(a)\nINPUT(b)\nOUTPUT(y)\ny = NAND(a, b)\n",
+        )?;
         check(&rt, alloc, row, &mut files, Vec::new(alloc))?;
     }
     Ok(())
@@ -224,13 +248,17 @@ fn faults(rt: HostRuntime) -> Result<(), Fail> {
 fn limits(rt: HostRuntime) -> Result<(), Fail> {
     let alloc = rt.alloc();
     let mut files = MemoryFiles::new(alloc, Vec::new(alloc));
-    let mut out = MemorySink::new(alloc, Vec::new(alloc));
     let mut words = owned(alloc, &["lognet"])?;
     words.push("x".repeat(alloc, 1_048_577)?)?;
-    let views = Vec::new(alloc);
-    let outcome = run(alloc, &words, &mut files, &mut out, Kit { views });
-    assert_eq!(rt; out.written(), b"error script 0\n".as_slice());
-    assert_eq!(rt; outcome.status, 2);
+    compare(
+        &rt,
+        alloc,
+        &words,
+        "error script 0\n",
+        2,
+        &mut files,
+        Vec::new(alloc),
+    )?;
     let long = vec![in alloc; b'1'; 67_108_865]?;
     files.set("long.aag", &long)?;
     let too_long = Row {

@@ -40,8 +40,7 @@ fn steps(rt: HostRuntime) -> Result<(), Fail> {
     let mut files = MemoryFiles::new(alloc, Vec::new(alloc));
     let mut out = MemorySink::new(alloc, Vec::new(alloc));
     files.set("and.aag", b"aag 3 2 0 1 1\n2\n4\n7\n6 2 4\n")?;
-    let script =
-        b"write aag x; read aiger and.aag aig; view depth; write aag x; read aiger y aig";
+    let script = b"write aag x; read aiger and.aag aig; view depth; write aag x; read aiger y aig";
     let commands = parse_script(alloc, script).ok().ok_or("a script")?;
     let [first, second, third, fourth, fifth] = &*commands else {
         return Err("five commands".into());
@@ -55,10 +54,22 @@ fn steps(rt: HostRuntime) -> Result<(), Fail> {
         stepped(alloc, &mut session, first, &mut files, &mut out)?,
         StepEnd::Unmet(Unmet::NoNetwork)
     );
-    assert_eq!(rt; stepped(alloc, &mut session, second, &mut files, &mut out)?, StepEnd::Met);
-    assert_eq!(rt; stepped(alloc, &mut session, third, &mut files, &mut out)?, StepEnd::Met);
-    assert_eq!(rt; stepped(alloc, &mut session, fourth, &mut files, &mut out)?, StepEnd::Met);
-    assert_eq!(rt; stepped(alloc, &mut session, fifth, &mut files, &mut out)?, StepEnd::Fault);
+    assert_eq!(rt;
+        stepped(alloc, &mut session, second, &mut files, &mut out)?,
+        StepEnd::Met
+    );
+    assert_eq!(rt;
+        stepped(alloc, &mut session, third, &mut files, &mut out)?,
+        StepEnd::Met
+    );
+    assert_eq!(rt;
+        stepped(alloc, &mut session, fourth, &mut files, &mut out)?,
+        StepEnd::Met
+    );
+    assert_eq!(rt;
+        stepped(alloc, &mut session, fifth, &mut files, &mut out)?,
+        StepEnd::Fault
+    );
     assert_eq!(rt; session.next_view(), 2);
     assert_eq!(rt; session.live().len(), 1);
     match session.network() {

@@ -19,8 +19,8 @@ use lnet_gates::{Kind, Node};
 use lnet_model::ViewSpec;
 use lnet_replies::{Reply, Unmet};
 use lnet_script::WriteFormat;
-use lnet_subscriptions::{AskError, AttachError, DropError};
 use lnet_store::View;
+use lnet_subscriptions::{AskError, AttachError, DropError};
 use std::alloc::{AllocError, Global};
 
 /// The text of a circuit of Ands in the format.

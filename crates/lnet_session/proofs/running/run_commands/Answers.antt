@@ -16,13 +16,13 @@ loop-index-init g c = record {
 pub loop-index-preserved : goal.loop-index-preserved
 loop-index-preserved g c = record {
   runs = λ start.
-    let old : World = record { state = state_of (λ b. goal.View-dyn g (b.vtable, b.value)) c.args.session.now; contents = g.F.Files.contents c.args.files.now; written = g.S.Sink.written c.args.out.now; file_faults = g.F.Files.faults c.args.files.now; last = g.F.Files.last c.args.files.now; sink_faults = g.S.Sink.faults c.args.out.now } in
-    let mid : World = record { state = state_of (λ b. goal.View-dyn g (b.vtable, b.value)) c.loop-index.session; contents = g.F.Files.contents c.loop-index.files; written = g.S.Sink.written c.loop-index.out; file_faults = g.F.Files.faults c.loop-index.files; last = g.F.Files.last c.loop-index.files; sink_faults = g.S.Sink.faults c.loop-index.out } in
-    let new : World = record { state = state_of (λ b. goal.View-dyn g (b.vtable, b.value)) c.step.new.self; contents = g.F.Files.contents c.step.new.files; written = g.S.Sink.written c.step.new.out; file_faults = g.F.Files.faults c.step.new.files; last = g.F.Files.last c.step.new.files; sink_faults = g.S.Sink.faults c.step.new.out } in
-    elim c.match-step.branch [
-      | in-Met w ↦ ran_next c.args.commands.now c.loop-index.index c.index-commands-index.result ends.Met c.loop-index.unmet c.match-step.unmet false start old mid new c.loop-index-test.true c.index-commands-index.is (c.loop-index.invariant.runs start) w.in-Met.ensures.step met_is (with_met c.loop-index.unmet c.match-step.unmet w.unmet-is) c.step.ensures.file_faults c.step.ensures.sink_faults
-      | in-Unmet w ↦ ran_next c.args.commands.now c.loop-index.index c.index-commands-index.result (ends.Unmet w.in-Unmet.field-0) c.loop-index.unmet c.match-step.unmet true start old mid new c.loop-index-test.true c.index-commands-index.is (c.loop-index.invariant.runs start) w.in-Unmet.ensures.step (unmet_is w.in-Unmet.field-0) (with_unmet c.loop-index.unmet c.match-step.unmet w.unmet-is) c.step.ensures.file_faults c.step.ensures.sink_faults
-    ];
+      let old : World = record { state = state_of (λ b. goal.View-dyn g (b.vtable, b.value)) c.args.session.now; contents = g.F.Files.contents c.args.files.now; written = g.S.Sink.written c.args.out.now; file_faults = g.F.Files.faults c.args.files.now; last = g.F.Files.last c.args.files.now; sink_faults = g.S.Sink.faults c.args.out.now } in
+      let mid : World = record { state = state_of (λ b. goal.View-dyn g (b.vtable, b.value)) c.loop-index.session; contents = g.F.Files.contents c.loop-index.files; written = g.S.Sink.written c.loop-index.out; file_faults = g.F.Files.faults c.loop-index.files; last = g.F.Files.last c.loop-index.files; sink_faults = g.S.Sink.faults c.loop-index.out } in
+      let new : World = record { state = state_of (λ b. goal.View-dyn g (b.vtable, b.value)) c.step.new.self; contents = g.F.Files.contents c.step.new.files; written = g.S.Sink.written c.step.new.out; file_faults = g.F.Files.faults c.step.new.files; last = g.F.Files.last c.step.new.files; sink_faults = g.S.Sink.faults c.step.new.out } in
+      elim c.match-step.branch [
+        | in-Met w ↦ ran_next c.args.commands.now c.loop-index.index c.index-commands-index.result ends.Met c.loop-index.unmet c.match-step.unmet false start old mid new c.loop-index-test.true c.index-commands-index.is (c.loop-index.invariant.runs start) w.in-Met.ensures.step met_is (with_met c.loop-index.unmet c.match-step.unmet w.unmet-is) c.step.ensures.file_faults c.step.ensures.sink_faults
+        | in-Unmet w ↦ ran_next c.args.commands.now c.loop-index.index c.index-commands-index.result (ends.Unmet w.in-Unmet.field-0) c.loop-index.unmet c.match-step.unmet true start old mid new c.loop-index-test.true c.index-commands-index.is (c.loop-index.invariant.runs start) w.in-Unmet.ensures.step (unmet_is w.in-Unmet.field-0) (with_unmet c.loop-index.unmet c.match-step.unmet w.unmet-is) c.step.ensures.file_faults c.step.ensures.sink_faults
+      ];
   good = c.step.ensures.good;
   next = (let before = c.loop-index.invariant.next in let more = c.step.ensures.numbers in omega arith);
 }

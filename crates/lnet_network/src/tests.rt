@@ -80,21 +80,6 @@ fn follow<G: Gates>(network: &mut Network<G>, view: Box<dyn View>) -> Result<Vie
     }
 }
 
-/// A gate gives way to a signal.
-fn give_way<G: Gates>(network: &mut Network<G>, gate: Signal, signal: Signal) -> Result<(), Fail>
-    requires in_step { EachSlot (Fits spec_of kept room network.old.core.network network.old.core.room) network.old.views.items }
-    ensures in_step { EachSlot (Fits spec_of kept room network.new.core.network network.new.core.room) network.new.views.items }
-{
-    if network.gate_of(gate.node).is_none() || !network.is_live(signal.node) {
-        return Err("no such gate".into());
-    }
-    if network.depends_on(signal, gate.node) {
-        return Err("a cycle".into());
-    }
-    network.substitute(gate.node, signal);
-    Ok(())
-}
-
 #[test]
 fn equal_gates_are_one(rt: HostRuntime) -> Result<(), Fail> {
     let mut network: Network<AigGates> = Network::new(rt.alloc())?;
@@ -119,27 +104,6 @@ fn equal_gates_are_one(rt: HostRuntime) -> Result<(), Fail> {
     network.sweep();
     assert_eq!(rt; network.live_count(), 3);
     assert_eq!(rt; network.kind(), Kind::Aig);
-    Ok(())
-}
-
-#[test]
-fn a_gate_gives_way(rt: HostRuntime) -> Result<(), Fail> {
-    let mut network: Network<AigGates> = Network::new(rt.alloc())?;
-    let a = input(&mut network)?;
-    let b = input(&mut network)?;
-    let c = input(&mut network)?;
-    let both = on(&mut network, Op::And, a, b)?;
-    let all = on(&mut network, Op::And, both, c)?;
-    let ends = on(&mut network, Op::And, a, c)?;
-    output(&mut network, all)?;
-    output(&mut network, ends.flipped(true))?;
-    // What reads it is the gate of a and c then, of which there is one.
-    give_way(&mut network, both, a)?;
-    assert_eq!(rt; network.live_count(), 5);
-    match (network.output_at(0), network.output_at(1)) {
-        (Some(first), Some(second)) => assert_eq!(rt; second, first.flipped(true)),
-        _ => return Err("no output".into()),
-    }
     Ok(())
 }
 

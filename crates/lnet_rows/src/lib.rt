@@ -2,6 +2,12 @@
 #![tactic(auto)]
 
 #[cfg(test)]
+mod contents;
+#[cfg(test)]
+mod counting;
+#[cfg(test)]
+mod forms;
+#[cfg(test)]
 mod runs;
 #[cfg(test)]
 mod steps;

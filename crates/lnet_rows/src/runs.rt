@@ -27,8 +27,23 @@ fn owned(alloc: Global, words: &[&str]) -> Result<Vec<String>, AllocError> {
     Ok(owned)
 }
 
-/// Runs the words over the files and two depth views, with a sink whose puts of these numbers fail, and compares what comes.
-fn compare<R: Abort>(
+/// Runs the words over the files, the sink and two depth views, and tells the status.
+pub(crate) fn status_of(
+    alloc: Global,
+    words: &[String],
+    files: &mut MemoryFiles,
+    out: &mut MemorySink,
+) -> Result<u8, AllocError> {
+    let first: Box<dyn View> = Box::new(alloc, DepthView::new(alloc)?)?;
+    let second: Box<dyn View> = Box::new(alloc, DepthView::new(alloc)?)?;
+    let mut views = Vec::new(alloc);
+    views.push(first)?;
+    views.push(second)?;
+    Ok(run(alloc, words, files, out, Kit { views }).status)
+}
+
+/// Runs the words over the files, with a sink whose puts of these numbers fail, and compares what comes.
+pub(crate) fn compare<R: Abort>(
     rt: &R,
     alloc: Global,
     words: &[String],
@@ -38,14 +53,9 @@ fn compare<R: Abort>(
     failing_puts: Vec<u32>,
 ) -> Result<(), AllocError> {
     let mut out = MemorySink::new(alloc, failing_puts);
-    let first: Box<dyn View> = Box::new(alloc, DepthView::new(alloc)?)?;
-    let second: Box<dyn View> = Box::new(alloc, DepthView::new(alloc)?)?;
-    let mut views = Vec::new(alloc);
-    views.push(first)?;
-    views.push(second)?;
-    let outcome = run(alloc, words, files, &mut out, Kit { views });
+    let told = status_of(alloc, words, files, &mut out)?;
     assert_eq!(rt; out.written(), transcript.as_bytes());
-    assert_eq!(rt; outcome.status, status);
+    assert_eq!(rt; told, status);
     Ok(())
 }
 
@@ -243,7 +253,7 @@ fn faults(rt: HostRuntime) -> Result<(), Fail> {
     Ok(())
 }
 
-/// A script of one byte too many, and a content of one byte too many.
+/// A script of one byte too many, a content of one byte too many, and inputs for which there are too few numbers.
 #[test]
 fn limits(rt: HostRuntime) -> Result<(), Fail> {
     let alloc = rt.alloc();
@@ -267,5 +277,12 @@ fn limits(rt: HostRuntime) -> Result<(), Fail> {
         status: 1,
     };
     check(&rt, alloc, &too_long, &mut files, Vec::new(alloc))?;
+    files.set("full.aig", b"aig 1048576 1048576 0 0 0\n")?;
+    let full = Row {
+        words: &["lognet", "read aiger full.aig klut; stats"],
+        transcript: "unmet 1 Full\nunmet 2 NoNetwork\n",
+        status: 1,
+    };
+    check(&rt, alloc, &full, &mut files, Vec::new(alloc))?;
     Ok(())
 }

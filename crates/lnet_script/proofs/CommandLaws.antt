@@ -1,18 +1,18 @@
 -- The words of a piece are read as the command that they spell.
-use Rattle.std.proofs.Common.{◌≡◌, ℕ, List, [], ◌∷◌, Option, Some, None, refl, sym, ap, subst}
+use Rattle.std.proofs.Common.{◌≡◌, ℕ, List, [], ◌∷◌, Option, Some, None, refl, sym, ap, subst, arith}
 use Rattle.std.specs.Prelude.{codes}
 use Rattle.std.specs.Fmt.{decimal}
 use Rattle.lnet_script.specs.declared.command.Query.TheVariants.{Level}
 use Rattle.lnet_model.specs.declared.view_spec.ViewSpec.TheVariants as views
 use Rattle.lnet_script.specs.declared.command.Command.{Command}
-use Rattle.lnet_script.specs.declared.command.Command.TheVariants.{Read, Write, View, Drop, Ask, Print, Stats, Convert}
+use Rattle.lnet_script.specs.declared.command.Command.TheVariants.{Read, Write, Gen, View, Drop, Ask, Print, Stats, Convert}
 use Rattle.lnet_script.specs.declared.keywords.Verb.{Verb}
 use Rattle.lnet_script.specs.declared.keywords.Verb.TheVariants as verbs
 use Rattle.lnet_script.specs.Spelling.{kind_word, read_word, write_word, Spells}
 use Rattle.lnet_script.specs.Given.{◌>>=◌}
-use Rattle.lnet_script.specs.Keywords.{verb_word, verb_of, kind_of, read_format_of, write_format_of, view_of, query_of, number_of, name_of}
-use Rattle.lnet_script.specs.Reading.{no_word, one_word, two_words, three_words, read_of, write_of, attach_of, drop_of, ask_of, convert_of, behind, command_of}
-use Rattle.lnet_script.proofs.Digits.{number_is, number_again}
+use Rattle.lnet_script.specs.Keywords.{verb_word, verb_of, kind_of, read_format_of, write_format_of, view_of, query_of, long_number_of, number_of, count_of, name_of}
+use Rattle.lnet_script.specs.Reading.{no_word, one_word, two_words, three_words, five_words, read_of, write_of, generate_of, attach_of, drop_of, ask_of, convert_of, behind, command_of}
+use Rattle.lnet_script.proofs.Digits.{number_is, number_again, count_is, count_again, long_number_is, long_number_again}
 use Rattle.lnet_script.proofs.KeywordLaws.{verb_is, kind_is, kind_again, read_format_is, read_format_again, write_format_is, write_format_again, word_is, name_of_is, name_again}
 
 bind_some : {A B : Type 0} (r : Option A) (f : A → Option B) (y : B) → (r >>= f) ≡ Some y → (x : A) × (r ≡ Some x) × (f x ≡ Some y)
@@ -47,6 +47,14 @@ three_left (w ∷ ws) x e =
     let same : (w, others.0.0, others.0.1) ≡ x = some_is (w, others.0.0, others.0.1) x others.2 in
     subst (λ (y : List ℕ × List ℕ × List ℕ). w ∷ ws ≡ y.0 ∷ y.1 ∷ y.2 ∷ []) same (ap (λ (r : List (List ℕ)). w ∷ r) (two_left ws others.0 others.1))
 
+five_left : (words : List (List ℕ)) (x : List ℕ × List ℕ × List ℕ × List ℕ × List ℕ) → five_words words ≡ Some x → words ≡ x.0 ∷ x.1 ∷ x.2 ∷ x.3 ∷ x.4 ∷ []
+five_left [] x e = absurd cc
+five_left (w ∷ []) x e = absurd cc
+five_left (w ∷ v ∷ ws) x e =
+    let others = bind_some (three_words ws) (λ b. Some (w, v, b.0, b.1, b.2)) x e in
+    let same : (w, v, others.0.0, others.0.1, others.0.2) ≡ x = some_is (w, v, others.0.0, others.0.1, others.0.2) x others.2 in
+    subst (λ (y : List ℕ × List ℕ × List ℕ × List ℕ × List ℕ). w ∷ v ∷ ws ≡ y.0 ∷ y.1 ∷ y.2 ∷ y.3 ∷ y.4 ∷ []) same (ap (λ (r : List (List ℕ)). w ∷ v ∷ r) (three_left ws others.0 others.1))
+
 one_as : (v : List ℕ) (ws : List (List ℕ)) (w x : List ℕ) → ws ≡ w ∷ [] → w ≡ x → v ∷ ws ≡ v ∷ x ∷ []
 one_as v ws w x whole first = cc
 
@@ -55,6 +63,9 @@ two_as v ws w x y whole first second = cc
 
 three_as : (v : List ℕ) (ws : List (List ℕ)) (w : List ℕ × List ℕ × List ℕ) (x y z : List ℕ) → ws ≡ w.0 ∷ w.1 ∷ w.2 ∷ [] → w.0 ≡ x → w.1 ≡ y → w.2 ≡ z → v ∷ ws ≡ v ∷ x ∷ y ∷ z ∷ []
 three_as v ws w x y z whole first second third = cc
+
+five_as : (v : List ℕ) (ws : List (List ℕ)) (w : List ℕ × List ℕ × List ℕ × List ℕ × List ℕ) (a b c d e : List ℕ) → ws ≡ w.0 ∷ w.1 ∷ w.2 ∷ w.3 ∷ w.4 ∷ [] → w.0 ≡ a → w.1 ≡ b → w.2 ≡ c → w.3 ≡ d → w.4 ≡ e → v ∷ ws ≡ v ∷ a ∷ b ∷ c ∷ d ∷ e ∷ []
+five_as v ws w a b c d e whole first second third fourth fifth = cc
 
 -- ---- what is read is spelled
 
@@ -83,6 +94,24 @@ write_is ws c e =
     let same : Write f.0 n.0 ≡ c = some_is (Write f.0 n.0) c n.2 in
     subst (λ (d : Command). Spells (codes "write" ∷ ws) d) same
     (name.1, two_as (codes "write") ws w.0 (write_word f.0) n.0 (two_left ws w.0 w.1) format name.0)
+
+generate_is : (ws : List (List ℕ)) (c : Command) → generate_of ws ≡ Some c → Spells (codes "gen" ∷ ws) c
+unfolding generate_of
+generate_is ws c e =
+    let w = bind_some (five_words ws) (λ w. kind_of w.0 >>= λ kind. count_of 1 4096 w.1 >>= λ inputs. count_of 0 262144 w.2 >>= λ gates. count_of 1 4096 w.3 >>= λ outputs. long_number_of w.4 >>= λ start. Some (Gen kind inputs gates outputs start)) c e in
+    let k = bind_some (kind_of w.0.0) (λ kind. count_of 1 4096 w.0.1 >>= λ inputs. count_of 0 262144 w.0.2 >>= λ gates. count_of 1 4096 w.0.3 >>= λ outputs. long_number_of w.0.4 >>= λ start. Some (Gen kind inputs gates outputs start)) c w.2 in
+    let i = bind_some (count_of 1 4096 w.0.1) (λ inputs. count_of 0 262144 w.0.2 >>= λ gates. count_of 1 4096 w.0.3 >>= λ outputs. long_number_of w.0.4 >>= λ start. Some (Gen k.0 inputs gates outputs start)) c k.2 in
+    let g = bind_some (count_of 0 262144 w.0.2) (λ gates. count_of 1 4096 w.0.3 >>= λ outputs. long_number_of w.0.4 >>= λ start. Some (Gen k.0 i.0 gates outputs start)) c i.2 in
+    let o = bind_some (count_of 1 4096 w.0.3) (λ outputs. long_number_of w.0.4 >>= λ start. Some (Gen k.0 i.0 g.0 outputs start)) c g.2 in
+    let s = bind_some (long_number_of w.0.4) (λ start. Some (Gen k.0 i.0 g.0 o.0 start)) c o.2 in
+    let kind = kind_is w.0.0 k.0 k.1 in
+    let inputs = count_is 1 4096 w.0.1 i.0 i.1 in
+    let gates = count_is 0 262144 w.0.2 g.0 g.1 in
+    let outputs = count_is 1 4096 w.0.3 o.0 o.1 in
+    let start = long_number_is w.0.4 s.0 s.1 in
+    let same : Gen k.0 i.0 g.0 o.0 s.0 ≡ c = some_is (Gen k.0 i.0 g.0 o.0 s.0) c s.2 in
+    subst (λ (d : Command). Spells (codes "gen" ∷ ws) d) same
+    (inputs.1, gates.1, outputs.1, start.1, five_as (codes "gen") ws w.0 (kind_word k.0) (decimal i.0) (decimal g.0) (decimal o.0) (decimal s.0) (five_left ws w.0 w.1) kind inputs.0 gates.0 outputs.0 start.0)
 
 attach_is : (ws : List (List ℕ)) (c : Command) → attach_of ws ≡ Some c → Spells (codes "view" ∷ ws) c
 unfolding attach_of
@@ -128,6 +157,7 @@ convert_is ws c e =
 behind_is : (v : Verb) (ws : List (List ℕ)) (c : Command) → behind v ws ≡ Some c → Spells (verb_word v ∷ ws) c
 behind_is verbs.Read ws c e = read_is ws c e
 behind_is verbs.Write ws c e = write_is ws c e
+behind_is verbs.Gen ws c e = generate_is ws c e
 behind_is verbs.View ws c e = attach_is ws c e
 behind_is verbs.Drop ws c e = drop_is ws c e
 behind_is verbs.Ask ws c e = ask_is ws c e
@@ -151,9 +181,10 @@ command_is (w ∷ ws) c e =
 -- ---- what is spelled is read
 
 pub command_again : (words : List (List ℕ)) (c : Command) → Spells words c → command_of words ≡ Some c
-unfolding command_of read_of write_of attach_of drop_of ask_of convert_of
+unfolding command_of read_of write_of generate_of attach_of drop_of ask_of convert_of
 command_again words (Read format name kind) is = rw is.1 (rw (read_format_again format, kind_again kind, name_again name is.0) refl)
 command_again words (Write format name) is = rw is.1 (rw (write_format_again format, name_again name is.0) refl)
+command_again words (Gen kind inputs gates outputs start) is = rw is.4 (rw (kind_again kind, count_again 1 4096 inputs is.0 (omega arith), count_again 0 262144 gates is.1 (omega arith), count_again 1 4096 outputs is.2 (omega arith), long_number_again start is.3) refl)
 command_again words (View views.Depth) is = rw is refl
 command_again words (View views.Fanout) is = absurd is
 command_again words (View (views.Cuts rule)) is = absurd is

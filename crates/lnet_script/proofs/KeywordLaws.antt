@@ -28,11 +28,12 @@ found_passes p (x ∷ xs) y e =
     ] refl e
 
 pub verb_is : (word : List ℕ) (v : Verb) → verb_of word ≡ Some v → word ≡ verb_word v
-verb_is word v e = sym ((bytes_eq-Decides (verb_word v) word).0 (found_passes (λ v. bytes_eq (verb_word v) word) (verbs.Read ∷ verbs.Write ∷ verbs.View ∷ verbs.Drop ∷ verbs.Ask ∷ verbs.Print ∷ verbs.Stats ∷ verbs.Convert ∷ []) v e))
+verb_is word v e = sym ((bytes_eq-Decides (verb_word v) word).0 (found_passes (λ v. bytes_eq (verb_word v) word) (verbs.Read ∷ verbs.Write ∷ verbs.Gen ∷ verbs.View ∷ verbs.Drop ∷ verbs.Ask ∷ verbs.Print ∷ verbs.Stats ∷ verbs.Convert ∷ []) v e))
 
 pub verb_again : (v : Verb) → verb_of (verb_word v) ≡ Some v
 verb_again verbs.Read = refl
 verb_again verbs.Write = refl
+verb_again verbs.Gen = refl
 verb_again verbs.View = refl
 verb_again verbs.Drop = refl
 verb_again verbs.Ask = refl
@@ -50,10 +51,11 @@ kind_again Mig = refl
 kind_again Klut = refl
 
 pub read_format_is : (word : List ℕ) (f : ReadFormat) → read_format_of word ≡ Some f → word ≡ read_word f
-read_format_is word f e = sym ((bytes_eq-Decides (read_word f) word).0 (found_passes (λ f. bytes_eq (read_word f) word) (reads.Aiger ∷ reads.Bench ∷ []) f e))
+read_format_is word f e = sym ((bytes_eq-Decides (read_word f) word).0 (found_passes (λ f. bytes_eq (read_word f) word) (reads.Aiger ∷ reads.Blif ∷ reads.Bench ∷ []) f e))
 
 pub read_format_again : (f : ReadFormat) → read_format_of (read_word f) ≡ Some f
 read_format_again reads.Aiger = refl
+read_format_again reads.Blif = refl
 read_format_again reads.Bench = refl
 
 pub write_format_is : (word : List ℕ) (f : WriteFormat) → write_format_of word ≡ Some f → word ≡ write_word f

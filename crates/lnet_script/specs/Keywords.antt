@@ -1,5 +1,5 @@
 -- What one word stands for: a keyword, a number or a name.
-use Rattle.std.specs.Prelude.{ℕ, ◌^◌, Bool, not, ◌&&◌, ◌==◌, nat_lt, List, [], ◌∷◌, length, slice_index, Option, Some, None, find, codes, if◌then◌else◌}
+use Rattle.std.specs.Prelude.{ℕ, ◌^◌, Bool, not, ◌&&◌, ◌==◌, nat_lt, nat_le, List, [], ◌∷◌, length, slice_index, Option, Some, None, find, codes, if◌then◌else◌}
 use Rattle.std.specs.Str.{bytes_eq, all_ascii_digits}
 use Rattle.std.specs.Str.Parse.{digits_value}
 use Rattle.lnet_gates.specs.declared.gate.Kind.{Kind}
@@ -21,6 +21,7 @@ use Rattle.lnet_script.specs.Pieces.{is_word}
 abbrev pub verb_word : Verb → List ℕ
 verb_word verbs.Read = codes "read"
 verb_word verbs.Write = codes "write"
+verb_word verbs.Gen = codes "gen"
 verb_word verbs.View = codes "view"
 verb_word verbs.Drop = codes "drop"
 verb_word verbs.Ask = codes "ask"
@@ -30,7 +31,7 @@ verb_word verbs.Convert = codes "convert"
 
 -- the command that a word begins
 abbrev pub verb_of : List ℕ → Option Verb
-verb_of word = find (λ v. bytes_eq (verb_word v) word) (verbs.Read ∷ verbs.Write ∷ verbs.View ∷ verbs.Drop ∷ verbs.Ask ∷ verbs.Print ∷ verbs.Stats ∷ verbs.Convert ∷ [])
+verb_of word = find (λ v. bytes_eq (verb_word v) word) (verbs.Read ∷ verbs.Write ∷ verbs.Gen ∷ verbs.View ∷ verbs.Drop ∷ verbs.Ask ∷ verbs.Print ∷ verbs.Stats ∷ verbs.Convert ∷ [])
 
 -- the kind of networks that a word names
 abbrev pub kind_of : List ℕ → Option Kind
@@ -42,7 +43,7 @@ if_word text x word = if bytes_eq text word then Some x else None
 
 -- the formats, the views of one word, and what views are asked for
 abbrev pub read_format_of : List ℕ → Option ReadFormat
-read_format_of word = find (λ f. bytes_eq (read_word f) word) (reads.Aiger ∷ reads.Bench ∷ [])
+read_format_of word = find (λ f. bytes_eq (read_word f) word) (reads.Aiger ∷ reads.Blif ∷ reads.Bench ∷ [])
 
 abbrev pub write_format_of : List ℕ → Option WriteFormat
 write_format_of word = find (λ f. bytes_eq (write_word f) word) (writes.Aag ∷ writes.Aig ∷ [])
@@ -53,13 +54,26 @@ view_of word = if_word (codes "depth") views.Depth word
 abbrev pub query_of : List ℕ → Option Query
 query_of word = if_word (codes "level") Level word
 
--- digits without a leading zero, for a number below 2 ^ 32
+-- digits without a leading zero, for a number below 2 ^ 64
 abbrev pub is_numeral : List ℕ → Bool
-is_numeral ds = nat_lt 0 (length ds) && not (nat_lt 1 (length ds) && (slice_index ds 0 == 48)) && nat_lt (digits_value 10 ds) (2 ^ 32)
+is_numeral ds = nat_lt 0 (length ds) && not (nat_lt 1 (length ds) && (slice_index ds 0 == 48)) && nat_lt (digits_value 10 ds) (2 ^ 64)
 
--- the number of a word
+-- the number of a word, below 2 ^ 64
+unfoldable pub long_number_of : List ℕ → Option ℕ
+long_number_of word = if all_ascii_digits word && is_numeral word then Some (digits_value 10 word) else None
+
+-- the number that is read, where it passes
+abbrev pub where_passes : (ℕ → Bool) → Option ℕ → Option ℕ
+where_passes passes None = None
+where_passes passes (Some n) = if passes n then Some n else None
+
+-- the number of a word, below 2 ^ 32
 unfoldable pub number_of : List ℕ → Option ℕ
-number_of word = if all_ascii_digits word && is_numeral word then Some (digits_value 10 word) else None
+number_of word = where_passes (λ n. nat_lt n (2 ^ 32)) (long_number_of word)
+
+-- the number of a word, between these two
+unfoldable pub count_of : ℕ → ℕ → List ℕ → Option ℕ
+count_of least most word = where_passes (λ n. nat_le least n && nat_le n most) (number_of word)
 
 -- the name that a word is
 unfoldable pub name_of : List ℕ → Option (List ℕ)

@@ -1,11 +1,11 @@
 -- Reading the words of a piece as a command.
 use Rattle.std.specs.Prelude.{ℕ, List, [], ◌∷◌, Option, Some, None}
 use Rattle.lnet_script.specs.declared.command.Command.{Command}
-use Rattle.lnet_script.specs.declared.command.Command.TheVariants.{Read, Write, View, Drop, Ask, Print, Stats, Convert}
+use Rattle.lnet_script.specs.declared.command.Command.TheVariants.{Read, Write, Gen, View, Drop, Ask, Print, Stats, Convert}
 use Rattle.lnet_script.specs.declared.keywords.Verb.{Verb}
 use Rattle.lnet_script.specs.declared.keywords.Verb.TheVariants as verbs
 use Rattle.lnet_script.specs.Given.{◌>>=◌}
-use Rattle.lnet_script.specs.Keywords.{verb_of, kind_of, read_format_of, write_format_of, view_of, query_of, number_of, name_of}
+use Rattle.lnet_script.specs.Keywords.{verb_of, kind_of, read_format_of, write_format_of, view_of, query_of, long_number_of, number_of, count_of, name_of}
 
 -- ---- words one after the other
 
@@ -35,6 +35,13 @@ three_words words = do
   others ← two_words first.1
   Some (first.0, others.0, others.1)
 
+abbrev pub five_words : List (List ℕ) → Option (List ℕ × List ℕ × List ℕ × List ℕ × List ℕ)
+five_words words = do
+  first ← next_of words
+  second ← next_of first.1
+  others ← three_words second.1
+  Some (first.0, second.0, others.0, others.1, others.2)
+
 -- ---- commands, by the words behind the first
 
 unfoldable pub read_of : List (List ℕ) → Option Command
@@ -51,6 +58,16 @@ write_of words = do
   format ← write_format_of w.0
   name ← name_of w.1
   Some (Write format name)
+
+unfoldable pub generate_of : List (List ℕ) → Option Command
+generate_of words = do
+  w ← five_words words
+  kind ← kind_of w.0
+  inputs ← count_of 1 4096 w.1
+  gates ← count_of 0 262144 w.2
+  outputs ← count_of 1 4096 w.3
+  start ← long_number_of w.4
+  Some (Gen kind inputs gates outputs start)
 
 unfoldable pub attach_of : List (List ℕ) → Option Command
 attach_of words = do
@@ -87,6 +104,7 @@ alone_of command words = do
 abbrev pub behind : Verb → List (List ℕ) → Option Command
 behind verbs.Read words = read_of words
 behind verbs.Write words = write_of words
+behind verbs.Gen words = generate_of words
 behind verbs.View words = attach_of words
 behind verbs.Drop words = drop_of words
 behind verbs.Ask words = ask_of words

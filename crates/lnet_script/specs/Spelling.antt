@@ -1,11 +1,11 @@
 -- The words that spell a command.
-use Rattle.std.specs.Prelude.{◌≡◌, ℕ, ◌<◌, ◌^◌, List, [], ◌∷◌, codes, IsTrue}
+use Rattle.std.specs.Prelude.{◌≡◌, ℕ, ◌<◌, ◌≤◌, ◌^◌, List, [], ◌∷◌, codes, IsTrue}
 use Rattle.std.specs.Fmt.{decimal}
 use Rattle.lnet_gates.specs.declared.gate.Kind.{Kind}
 use Rattle.lnet_gates.specs.declared.gate.Kind.TheVariants.{Aig, Xag, Mig, Klut}
 use Rattle.lnet_model.specs.declared.view_spec.ViewSpec.TheVariants as views
 use Rattle.lnet_script.specs.declared.command.Command.{Command}
-use Rattle.lnet_script.specs.declared.command.Command.TheVariants.{Read, Write, View, Drop, Ask, Print, Stats, Convert}
+use Rattle.lnet_script.specs.declared.command.Command.TheVariants.{Read, Write, Gen, View, Drop, Ask, Print, Stats, Convert}
 use Rattle.lnet_script.specs.declared.command.Query.TheVariants.{Level}
 use Rattle.lnet_script.specs.declared.command.ReadFormat.{ReadFormat}
 use Rattle.lnet_script.specs.declared.command.ReadFormat.TheVariants as reads
@@ -23,6 +23,7 @@ kind_word Klut = codes "klut"
 -- the word of a format that is read
 abbrev pub read_word : ReadFormat → List ℕ
 read_word reads.Aiger = codes "aiger"
+read_word reads.Blif = codes "blif"
 read_word reads.Bench = codes "bench"
 
 -- the word of a format that is written
@@ -30,11 +31,16 @@ abbrev pub write_word : WriteFormat → List ℕ
 write_word writes.Aag = codes "aag"
 write_word writes.Aig = codes "aig"
 
+-- the number is between these two
+abbrev pub IsBetween : ℕ → ℕ → ℕ → Type 0
+IsBetween least n most = (least ≤ n) × (n ≤ most)
+
 -- A command's words: those of its syntax in their order. A name is a word, and a number is its decimal digits, below
--- 2 ^ 32. Commands and views that have no line here have no words.
+-- 2 ^ 32, and below 2 ^ 64 where a generated circuit starts. Commands and views that have no line here have no words.
 abbrev pub Spells : List (List ℕ) → Command → Type 0
 Spells words (Read format name kind) = IsTrue (is_word name) × (words ≡ codes "read" ∷ read_word format ∷ name ∷ kind_word kind ∷ [])
 Spells words (Write format name) = IsTrue (is_word name) × (words ≡ codes "write" ∷ write_word format ∷ name ∷ [])
+Spells words (Gen kind inputs gates outputs start) = IsBetween 1 inputs 4096 × IsBetween 0 gates 262144 × IsBetween 1 outputs 4096 × (start < 2 ^ 64) × (words ≡ codes "gen" ∷ kind_word kind ∷ decimal inputs ∷ decimal gates ∷ decimal outputs ∷ decimal start ∷ [])
 Spells words (View views.Depth) = words ≡ codes "view" ∷ codes "depth" ∷ []
 Spells words (View _) = ⊥
 Spells words (Drop v) = (v < 2 ^ 32) × (words ≡ codes "drop" ∷ decimal v ∷ [])

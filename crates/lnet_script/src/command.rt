@@ -9,6 +9,8 @@ use lnet_model::ViewSpec;
 pub enum ReadFormat {
     /// `aiger`: AIGER, ASCII or binary.
     Aiger,
+    /// `blif`: BLIF.
+    Blif,
     /// `bench`: BENCH.
     Bench,
 }
@@ -36,6 +38,9 @@ pub enum Command {
     Read(ReadFormat, Name, Kind),
     /// `write FORMAT NAME`: writes the network under the name.
     Write(WriteFormat, Name),
+    /// `gen KIND INPUTS GATES OUTPUTS START`: puts the network of the circuit in place, in that kind, that is generated from
+    /// START. INPUTS and OUTPUTS are from 1 to 4,096, and GATES is at most 262,144.
+    Gen(Kind, u32, u32, u32, u64),
     /// `view depth`: attaches a view from the shelf.
     View(ViewSpec),
     /// `drop V`: puts the view back on the shelf.

@@ -13,6 +13,7 @@ use lnet_model::ViewSpec;
 pub(crate) enum Verb {
     Read,
     Write,
+    Gen,
     View,
     Drop,
     Ask,
@@ -28,6 +29,7 @@ pub(crate) fn verb_named(word: &[u8]) -> Result<Verb, Refusal>
     match word {
         b"read" => Ok(Verb::Read),
         b"write" => Ok(Verb::Write),
+        b"gen" => Ok(Verb::Gen),
         b"view" => Ok(Verb::View),
         b"drop" => Ok(Verb::Drop),
         b"ask" => Ok(Verb::Ask),
@@ -57,6 +59,7 @@ pub(crate) fn read_format_named(word: &[u8]) -> Result<ReadFormat, Refusal>
 {
     match word {
         b"aiger" => Ok(ReadFormat::Aiger),
+        b"blif" => Ok(ReadFormat::Blif),
         b"bench" => Ok(ReadFormat::Bench),
         _ => Err(Refusal::NoCommand),
     }

@@ -3,14 +3,14 @@
 ghost use Rattle.std.specs.Prelude.{◌≡◌, ◌∷◌};
 ghost use Rattle.lnet_script.specs.Given.{Gives};
 ghost use Rattle.lnet_script.specs.Pieces.{words_of};
-ghost use Rattle.lnet_script.specs.Reading.{next_of, no_word, one_word, two_words, three_words, read_of, write_of, attach_of, drop_of, ask_of, convert_of, alone_of, command_of};
+ghost use Rattle.lnet_script.specs.Reading.{next_of, no_word, one_word, two_words, three_words, five_words, read_of, write_of, generate_of, attach_of, drop_of, ask_of, convert_of, alone_of, command_of};
 
 use crate::command::Command;
 use crate::keywords::{
     Verb, kind_named, query_named, read_format_named, verb_named, view_named, write_format_named,
 };
 use crate::refusal::Refusal;
-use crate::words::{name, next_word, number};
+use crate::words::{count, long_number, name, next_word, number};
 use std::alloc::Global;
 
 /// The next word, and what stands behind it.
@@ -60,6 +60,16 @@ fn three_due(bytes: &[u8]) -> Result<(&[u8], &[u8], &[u8]), Refusal>
     Ok((first, second, third))
 }
 
+/// The five words that there are.
+fn five_due(bytes: &[u8]) -> Result<(&[u8], &[u8], &[u8], &[u8], &[u8]), Refusal>
+    ensures { Gives (λ x. (x.0.now, x.1.now, x.2.now, x.3.now, x.4.now)) result (five_words (words_of bytes.now)) }
+{
+    let (first, rest) = due(bytes)?;
+    let (second, rest) = due(rest)?;
+    let (third, fourth, fifth) = three_due(rest)?;
+    Ok((first, second, third, fourth, fifth))
+}
+
 /// The words behind `read`: a format, a name and a kind.
 #[tactic(auto, unfolding(crate::specs::Reading::read_of))]
 fn read(alloc: Global, bytes: &[u8]) -> Result<Command, Refusal>
@@ -79,6 +89,25 @@ fn write(alloc: Global, bytes: &[u8]) -> Result<Command, Refusal>
     let (format, file) = two_due(bytes)?;
     let format = write_format_named(format)?;
     Ok(Command::Write(format, name(alloc, file)?))
+}
+
+/// The words behind `gen`: a kind, the counts of inputs, gates and outputs, and a start.
+#[tactic(auto, unfolding(crate::specs::Reading::generate_of))]
+fn generate(bytes: &[u8]) -> Result<Command, Refusal>
+    ensures { Gives (λ c. c) result (generate_of (words_of bytes.now)) }
+{
+    let (kind, inputs, gates, outputs, start) = five_due(bytes)?;
+    let kind = kind_named(kind)?;
+    let inputs = count(inputs, 1, 4096)?;
+    let gates = count(gates, 0, 262_144)?;
+    let outputs = count(outputs, 1, 4096)?;
+    Ok(Command::Gen(
+        kind,
+        inputs,
+        gates,
+        outputs,
+        long_number(start)?,
+    ))
 }
 
 /// The word behind `view`: which view.
@@ -132,6 +161,7 @@ pub(crate) fn command(alloc: Global, first: &[u8], rest: &[u8]) -> Result<Comman
     match verb_named(first)? {
         Verb::Read => read(alloc, rest),
         Verb::Write => write(alloc, rest),
+        Verb::Gen => generate(rest),
         Verb::View => attach(rest),
         Verb::Drop => detach(rest),
         Verb::Ask => ask(rest),

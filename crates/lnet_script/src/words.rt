@@ -8,7 +8,7 @@ ghost use Rattle.std.specs.Str.{all_ascii_digits};
 ghost use Rattle.std.specs.Str.Parse.{digits_value};
 ghost use Rattle.lnet_script.specs.Given.{Gives};
 ghost use Rattle.lnet_script.specs.Pieces.{is_byte, is_blank, is_word_byte, is_word, parts, parts_behind, left, left_length, words_of};
-ghost use Rattle.lnet_script.specs.Keywords.{is_numeral, number_of, name_of};
+ghost use Rattle.lnet_script.specs.Keywords.{is_numeral, long_number_of, number_of, count_of, name_of};
 
 use crate::refusal::Refusal;
 use lnet_edge::Name;
@@ -75,8 +75,8 @@ pub(crate) fn next_word(bytes: &[u8]) -> Option<(&[u8], &[u8])>
     None
 }
 
-/// The value of digits that have no leading zero.
-fn numeral(digits: &[u8]) -> Option<u32>
+/// The value of digits that have no leading zero, below 2 ^ 64.
+fn numeral(digits: &[u8]) -> Option<u64>
     requires { all_ascii_digits digits.now ≡ true }
     ensures { MatchOption result (is_numeral digits.now ≡ false) (λ n. (is_numeral digits.now ≡ true) × (n ≡ digits_value 10 digits.now)) }
 {
@@ -84,7 +84,7 @@ fn numeral(digits: &[u8]) -> Option<u32>
         return None;
     }
     match str::from_utf8(digits) {
-        Ok(text) => text.parse::<u32>().ok(),
+        Ok(text) => text.parse::<u64>().ok(),
         Err(_) => None,
     }
 }
@@ -96,10 +96,10 @@ fn are_digits(word: &[u8]) -> bool
     word.iter().all(|byte| byte.is_ascii_digit())
 }
 
-/// The number of a word: decimal digits without a leading zero, up to 4,294,967,295.
-#[tactic(auto, unfolding(crate::specs::Keywords::number_of))]
-pub(crate) fn number(word: &[u8]) -> Result<u32, Refusal>
-    ensures { Gives (λ n. n) result (number_of word.now) }
+/// The number of a word: decimal digits without a leading zero, below 2 ^ 64.
+#[tactic(auto, unfolding(crate::specs::Keywords::long_number_of))]
+pub(crate) fn long_number(word: &[u8]) -> Result<u64, Refusal>
+    ensures { Gives (λ n. n) result (long_number_of word.now) }
 {
     if !are_digits(word) {
         return Err(Refusal::NoCommand);
@@ -108,6 +108,29 @@ pub(crate) fn number(word: &[u8]) -> Result<u32, Refusal>
         Some(number) => Ok(number),
         None => Err(Refusal::NoCommand),
     }
+}
+
+/// The number of a word, up to 4,294,967,295.
+#[tactic(auto, unfolding(crate::specs::Keywords::number_of))]
+pub(crate) fn number(word: &[u8]) -> Result<u32, Refusal>
+    ensures { Gives (λ n. n) result (number_of word.now) }
+{
+    match u32::try_from(long_number(word)?) {
+        Ok(number) => Ok(number),
+        Err(_) => Err(Refusal::NoCommand),
+    }
+}
+
+/// The number of a word, between these two.
+#[tactic(auto, unfolding(crate::specs::Keywords::count_of))]
+pub(crate) fn count(word: &[u8], least: u32, most: u32) -> Result<u32, Refusal>
+    ensures { Gives (λ n. n) result (count_of least most word.now) }
+{
+    let number = number(word)?;
+    if number < least || number > most {
+        return Err(Refusal::NoCommand);
+    }
+    Ok(number)
 }
 
 /// Whether a word may have the byte: from 33 to 126, and neither `;` nor `#`.

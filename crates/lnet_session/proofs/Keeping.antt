@@ -6,6 +6,7 @@ use Rattle.lnet_edge.specs.Circuits.{CircuitValue}
 use Rattle.lnet_model.specs.Along.{Acyclic}
 use Rattle.lnet_build.specs.Built.{names_of}
 use Rattle.lnet_export.specs.Exported.{exported}
+use Rattle.lnet_generate.specs.Drawing.{generated}
 use Rattle.lnet_model.specs.declared.view_spec.ViewSpec.{ViewSpec}
 use Rattle.lnet_script.specs.declared.command.Command.{Command}
 use Rattle.lnet_script.specs.declared.command.Command.TheVariants as command
@@ -15,7 +16,7 @@ use Rattle.lnet_replies.specs.declared.reply.Unmet.TheVariants as unmet
 use Rattle.lnet_replies.specs.declared.reply.Reply.{Reply}
 use Rattle.lnet_replies.specs.declared.reply.Reply.TheVariants as reply
 use Rattle.lnet_session.specs.States.{Held, State}
-use Rattle.lnet_session.specs.Effects.{AgreeOutputs, Converts, Effect, PutsBack, Reads, Views}
+use Rattle.lnet_session.specs.Effects.{AgreeOutputs, Converts, Effect, Generates, PutsBack, Reads, Views}
 use Rattle.lnet_session.specs.Steps.{KeepsOutputs, MakesCall, own_call}
 use Rattle.lnet_session.specs.Runs.{FollowsOrigin, latest}
 
@@ -101,6 +102,7 @@ converts-agree old (Some k) kind (reply.Unmet unmet.WrongKind) new is h = absurd
 pub effect-keeps : (c : Command) (old new : State) (before after : Option Contents) (answer : Reply) (source : Option CircuitValue) → Effect old before c answer source new after → KeepsOutputs c old new
 effect-keeps (command.Read format name kind) old new before after answer source e = tt
 effect-keeps (command.Write format name) old new before after answer source e = agree-same old.held new.held (held-same old new e.1)
+effect-keeps (command.Gen kind inputs gates outputs start) old new before after answer source e = tt
 effect-keeps (command.View spec) old new before after answer source e = agree-same old.held new.held (views-keep old spec answer new e.0)
 effect-keeps (command.Drop number) old new before after answer source e = agree-same old.held new.held (put_back-keeps old number answer new e.0)
 effect-keeps (command.Ask number Level n) old new before after answer source e = agree-same old.held new.held (held-same old new e.1)
@@ -111,6 +113,7 @@ effect-keeps (command.Convert kind) old new before after answer source e = conve
 pub same-keeps : (c : Command) (old new : State) → new ≡ old → KeepsOutputs c old new
 same-keeps (command.Read format name kind) old new same = tt
 same-keeps (command.Write format name) old new same = agree-same old.held new.held (held-same old new same)
+same-keeps (command.Gen kind inputs gates outputs start) old new same = tt
 same-keeps (command.View spec) old new same = agree-same old.held new.held (held-same old new same)
 same-keeps (command.Drop number) old new same = agree-same old.held new.held (held-same old new same)
 same-keeps (command.Ask number query n) old new same = agree-same old.held new.held (held-same old new same)
@@ -180,9 +183,27 @@ reads-follow old format kind bytes (reply.Unmet unmet.ShelfEmpty) source new ori
 reads-follow old format kind bytes (reply.Unmet unmet.NoNode) source new origin f h = absurd h
 reads-follow old format kind bytes (reply.Unmet unmet.WrongKind) source new origin f h = absurd h
 
+generates-follow : (old : State) (kind : Kind) (c : CircuitValue) (answer : Reply) (source : Option CircuitValue) (new : State) (origin : Option CircuitValue) → FollowsOrigin old.held origin → Generates old kind c answer source new → FollowsOrigin new.held (latest source origin)
+generates-follow old kind c (reply.Network k2 i o g) source new origin f h = (let p = h.0 in subst (λ (s : Option CircuitValue). FollowsOrigin new.held (latest s origin)) (sym h.1) (subst (λ (t : Option Held). FollowsOrigin t (Some c)) (sym p.held) (c, refl, p.made.acyclic, p.made.values)))
+generates-follow old kind c (reply.Wrote n) source new origin f h = absurd h.0
+generates-follow old kind c (reply.Viewed v asked) source new origin f h = absurd h.0
+generates-follow old kind c (reply.Dropped v) source new origin f h = absurd h.0
+generates-follow old kind c (reply.Level node l) source new origin f h = absurd h.0
+generates-follow old kind c (reply.Printed t) source new origin f h = absurd h.0
+generates-follow old kind c (reply.Stats k2 i o g d) source new origin f h = absurd h.0
+generates-follow old kind c (reply.Unmet unmet.NoNetwork) source new origin f h = absurd h.0
+generates-follow old kind c (reply.Unmet (unmet.Malformed line fault)) source new origin f h = absurd h.0
+generates-follow old kind c (reply.Unmet unmet.TooLong) source new origin f h = absurd h.0
+generates-follow old kind c (reply.Unmet unmet.Full) source new origin f h = follows-same old.held new.held source origin f h.1 (held-same old new h.0.state)
+generates-follow old kind c (reply.Unmet unmet.NoView) source new origin f h = absurd h.0
+generates-follow old kind c (reply.Unmet unmet.ShelfEmpty) source new origin f h = absurd h.0
+generates-follow old kind c (reply.Unmet unmet.NoNode) source new origin f h = absurd h.0
+generates-follow old kind c (reply.Unmet unmet.WrongKind) source new origin f h = absurd h.0
+
 pub effect-follows : (c : Command) (old new : State) (before after : Option Contents) (answer : Reply) (source origin : Option CircuitValue) → FollowsOrigin old.held origin → Effect old before c answer source new after → FollowsOrigin new.held (latest source origin)
 effect-follows (command.Read format name kind) old new before after answer source origin f e = reads-follow old format kind e.0.0 answer source new origin f e.0.2
 effect-follows (command.Write format name) old new before after answer source origin f e = follows-same old.held new.held source origin f e.2 (held-same old new e.1)
+effect-follows (command.Gen kind inputs gates outputs start) old new before after answer source origin f e = generates-follow old kind (generated kind inputs gates outputs start) answer source new origin f e.0
 effect-follows (command.View spec) old new before after answer source origin f e = follows-same old.held new.held source origin f e.2 (views-keep old spec answer new e.0)
 effect-follows (command.Drop number) old new before after answer source origin f e = follows-same old.held new.held source origin f e.2 (put_back-keeps old number answer new e.0)
 effect-follows (command.Ask number Level n) old new before after answer source origin f e = follows-same old.held new.held source origin f e.3 (held-same old new e.1)
@@ -195,6 +216,7 @@ effect-follows (command.Convert kind) old new before after answer source origin 
 pub call-some : (c : Command) (state : State) → MakesCall c state → IsSome (own_call c)
 call-some (command.Read format name kind) state h = refl
 call-some (command.Write format name) state h = refl
+call-some (command.Gen kind inputs gates outputs start) state h = absurd h
 call-some (command.View spec) state h = absurd h
 call-some (command.Drop number) state h = absurd h
 call-some (command.Ask number query n) state h = absurd h

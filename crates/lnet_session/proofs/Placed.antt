@@ -25,7 +25,7 @@ use Rattle.lnet_session.specs.declared.session.Stop.{Stop}
 use Rattle.lnet_session.specs.States.{Held, State}
 use Rattle.lnet_session.specs.Made.{IsMadeOf}
 use Rattle.lnet_session.specs.Formats.{MeansIn, reader_of, text_in}
-use Rattle.lnet_session.specs.Effects.{AgreeOutputs, Converts, IsFull, MeansHeld, Places, PutsInPlace, Reads, SaysCounts, Writes, with_content, written_text}
+use Rattle.lnet_session.specs.Effects.{AgreeOutputs, Converts, Generates, IsFull, MeansHeld, Places, PutsInPlace, Reads, SaysCounts, Writes, source_of, with_content, written_text}
 
 -- ---- a network put in place
 
@@ -75,6 +75,12 @@ reads-one old new format kind bytes c short means (reply.Unmet unmet.WrongKind) 
 pub reads : (r : Result Reply Stop) (old new : State) (format : ReadFormat) (kind : Kind) (bytes : List ℕ) (c : CircuitValue) → length bytes ≤ file_limit → MeansIn format bytes c → IfOk r (λ answer. Places old kind c answer new) → IfOk r (λ answer. (source : Option CircuitValue) × Reads old format kind bytes answer source new)
 reads (Err e) old new format kind bytes c short means p = tt
 reads (Ok answer) old new format kind bytes c short means p = reads-one old new format kind bytes c short means answer p
+
+-- ---- a network of a generated circuit
+
+pub generates : (r : Result Reply Stop) (old new : State) (kind : Kind) (c d : CircuitValue) → c ≡ d → IfOk r (λ answer. Places old kind c answer new) → IfOk r (λ answer. (source : Option CircuitValue) × Generates old kind d answer source new)
+generates (Err e) old new kind c d is p = tt
+generates (Ok answer) old new kind c d is p = (source_of d answer, (subst (λ (x : CircuitValue). Places old kind x answer new) is p, refl))
 
 -- ---- a network of another kind
 

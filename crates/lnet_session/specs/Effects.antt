@@ -18,6 +18,7 @@ use Rattle.lnet_print.specs.Printed.{print_text}
 use Rattle.lnet_build.specs.Built.{names_of, numbers_needed}
 use Rattle.lnet_export.specs.Exported.{exported}
 use Rattle.lnet_any.specs.Forms.{form_of}
+use Rattle.lnet_generate.specs.Drawing.{generated}
 use Rattle.lnet_script.specs.declared.command.Command.{Command}
 use Rattle.lnet_script.specs.declared.command.Command.TheVariants as command
 use Rattle.lnet_script.specs.declared.command.Query.TheVariants.{Level}
@@ -70,6 +71,15 @@ Reads old format kind bytes (reply.Unmet unmet.TooLong) source new = (source ≡
 Reads old format kind bytes (reply.Unmet (unmet.Malformed line fault)) source new = (source ≡ None) × (length bytes ≤ file_limit) × IsMalformed format bytes (record { line = line; kind = fault }) × (new ≡ old)
 Reads old format kind bytes (reply.Unmet unmet.Full) source new = (source ≡ None) × (length bytes ≤ file_limit) × ((c : CircuitValue) × MeansIn format bytes c × IsFull kind c old new)
 Reads old format kind bytes _ source new = ⊥
+
+-- the circuit that is put in force, where the answer says that its network is in place
+abbrev pub source_of : CircuitValue → Reply → Option CircuitValue
+source_of c (reply.Network k inputs outputs gates) = Some c
+source_of c _ = None
+
+-- putting the network of a generated circuit in place
+abbrev pub Generates : State → Kind → CircuitValue → Reply → Option CircuitValue → State → Type 0
+Generates old kind c answer source new = Places old kind c answer new × (source ≡ source_of c answer)
 
 -- the contents with one name set, where they are told
 abbrev pub with_content : Option Contents → List ℕ → List ℕ → Option Contents
@@ -146,6 +156,7 @@ Converts old _ kind _ new = ⊥
 abbrev pub Effect : State → Option Contents → Command → Reply → Option CircuitValue → State → Option Contents → Type 0
 Effect old before (command.Read format name kind) answer source new after = ((bytes : List ℕ) × Holds before name bytes × Reads old format kind bytes answer source new) × (after ≡ before)
 Effect old before (command.Write format name) answer source new after = Writes format old.held before name answer after × (new ≡ old) × (source ≡ None)
+Effect old before (command.Gen kind inputs gates outputs start) answer source new after = Generates old kind (generated kind inputs gates outputs start) answer source new × (after ≡ before)
 Effect old before (command.View spec) answer source new after = Views old spec answer new × (after ≡ before) × (source ≡ None)
 Effect old before (command.Drop number) answer source new after = PutsBack old number answer new × (after ≡ before) × (source ≡ None)
 Effect old before (command.Ask number Level n) answer source new after = AsksLevel old.held old.roll.live number n answer × (new ≡ old) × (after ≡ before) × (source ≡ None)

@@ -74,7 +74,7 @@ pub record NothingRan (old new : World) : Type 0 where
   pub untouched : Untouched old new
   pub written : new.written ≡ old.written
 
--- The whole run by its ending. The origin is the circuit of the file last read.
+-- The whole run by its ending. The origin is the circuit last read or generated.
 abbrev pub EndsAs : List (List ℕ) → Ending → World → World → Option CircuitValue → Type 0
 EndsAs words (ending.Ran end) old new origin = RanScript words end old new origin
 EndsAs words (ending.Refused r) old new origin = RefusedWith words r old new × (origin ≡ None)

@@ -6,6 +6,7 @@ use Rattle.lnet_aiger.specs.Grammar as aiger
 use Rattle.lnet_aiger.specs.Faults as aiger_faults
 use Rattle.lnet_aiger.specs.Texts.{ascii_text, binary_text}
 use Rattle.lnet_bench.specs.Meanings as bench
+use Rattle.lnet_blif.specs.Meanings as blif
 use Rattle.lnet_script.specs.declared.command.ReadFormat.{ReadFormat}
 use Rattle.lnet_script.specs.declared.command.ReadFormat.TheVariants as reads
 use Rattle.lnet_script.specs.declared.command.WriteFormat.{WriteFormat}
@@ -14,11 +15,13 @@ use Rattle.lnet_script.specs.declared.command.WriteFormat.TheVariants as writes
 -- the bytes mean the circuit in the format
 abbrev pub MeansIn : ReadFormat → List ℕ → CircuitValue → Type 0
 MeansIn reads.Aiger bytes c = aiger.Means bytes c
+MeansIn reads.Blif bytes c = blif.Means bytes c
 MeansIn reads.Bench bytes c = bench.Means bytes c
 
 -- the first rule of the format that the bytes break, and its line
 abbrev pub IsFaultIn : ReadFormat → List ℕ → Malformed → Type 0
 IsFaultIn reads.Aiger bytes m = aiger_faults.IsFault bytes m
+IsFaultIn reads.Blif bytes m = blif.IsFault bytes m
 IsFaultIn reads.Bench bytes m = bench.IsFault bytes m
 
 -- the bytes mean no circuit in the format, and this is the first rule that they break

@@ -1,4 +1,4 @@
--- Whole runs: one command after another, with the circuit of the file last read.
+-- Whole runs: one command after another, with the circuit that was last read or generated.
 use Rattle.std.specs.Prelude.{◌≡◌, ℕ, ◌+◌, ◌≤◌, Bool, true, false, ◌||◌, List, [], ◌∷◌, ◌++◌, length, take, Option, Some, None, slice_get, ◌⊎◌}
 use Rattle.lnet_edge.specs.Outside.{Contents}
 use Rattle.lnet_edge.specs.Circuits.{CircuitValue}
@@ -16,7 +16,7 @@ use Rattle.lnet_session.specs.States.{Held, State}
 use Rattle.lnet_session.specs.Effects.{Effect}
 use Rattle.lnet_session.specs.Steps.{World, Steps, Grows}
 
--- what a run carries from command to command; the origin is the circuit of the file last read, none before the first
+-- what a run carries from command to command; the origin is the circuit that was last read or generated, none before the first
 pub record Scene : Type 0 where
   pub state : State
   pub contents : Option Contents

@@ -10,6 +10,7 @@ use Rattle.lnet_replies.specs.declared.reply.Reply.TheVariants as reply
 use Rattle.lnet_replies.specs.Texts.{reply_text}
 use Rattle.lnet_script.specs.declared.command.Command.{Command}
 use Rattle.lnet_script.specs.declared.command.Command.TheVariants as command
+use Rattle.lnet_script.specs.Spelling.{IsBetween}
 use Rattle.lnet_session.specs.declared.stepping.StepEnd.{StepEnd}
 use Rattle.lnet_session.specs.declared.stepping.StepEnd.TheVariants as ends
 use Rattle.lnet_session.specs.States.{Held, State}
@@ -20,8 +21,9 @@ abbrev pub end_of : Reply → StepEnd
 end_of (reply.Unmet cause) = ends.Unmet cause
 end_of _ = ends.Met
 
--- the cut rule of a view is within the limits
+-- the cut rule of a view and the counts of a generated circuit are within the limits
 abbrev pub IsCommand : Command → Type 0
+IsCommand (command.Gen kind inputs gates outputs start) = IsBetween 1 inputs 4096 × IsBetween 0 gates 262144 × IsBetween 1 outputs 4096
 IsCommand (command.View spec) = IsSpec spec
 IsCommand _ = Unit {0}
 
@@ -108,7 +110,8 @@ Steps command index (ends.Unmet cause) old new = Ended command index (ends.Unmet
 Steps command index ends.Fault old new = CallFailed command old new ⊎ PutFailed command index old new
 Steps command index ends.NoMemory old new = OutOfMemory command old new
 
--- a command other than a read keeps the functions of the outputs, however it ends
+-- a command other than one that reads or generates a circuit keeps the functions of the outputs, however it ends
 abbrev pub KeepsOutputs : Command → State → State → Type 0
 KeepsOutputs (command.Read format name kind) old new = Unit {0}
+KeepsOutputs (command.Gen kind inputs gates outputs start) old new = Unit {0}
 KeepsOutputs _ old new = AgreeOutputs old.held new.held

@@ -10,7 +10,7 @@ ghost use Rattle.lnet_session.specs.Formats.{reader_of};
 ghost use Rattle.lnet_session.specs.Written.{HoldsOrigin};
 
 /// Over each run that begins without a network, the network of each state has no cycle, and each of its outputs
-/// computes the same function of the inputs as in the file last read.
+/// computes the same function of the inputs as in the circuit that was last read or generated.
 ///
 /// The clause `states` says it of the state at a run's end, and `fronts` that each state of a run is the end of a run
 /// of its first commands.
@@ -22,7 +22,7 @@ pub fn runs_follow_their_origin()
 {}
 
 /// At the moment of a met write, the content that it left means, in the format's reading, a circuit whose outputs compute the functions of the
-/// file last read.
+/// circuit last read or generated.
 pub fn writes_mean_their_origin()
     ensures { (index : ℕ) (commands : List CommandValue) (old mid new : Scene) (text line : List ℕ) (unmet : Bool) (at : ℕ) (format : FormatValue) (name : List ℕ) (contents : Contents)
         → old.state.held ≡ None → Runs index commands old mid text unmet → Turn at (Write format name) mid new line false → new.contents ≡ Some contents → HoldsOrigin (reader_of format) contents name mid.origin }

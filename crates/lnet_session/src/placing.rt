@@ -1,11 +1,12 @@
-//! The commands that put a network in place: of a file, and of another kind.
+//! The commands that put a network in place: of a file, of a generated circuit, and of another kind.
 
 ghost use Rattle.std.specs.Prelude.{◌≡◌, ◌≤◌, ℕ, List, Option, length, IfOk, IfErr, OnErr, IsErrOf, Err, Some};
 ghost use Rattle.lnet_edge.specs.Circuits.{CircuitValue};
 ghost use Rattle.lnet_edge.specs.declared.fault.Malformed.{Malformed as MalformedValue};
 ghost use Rattle.lnet_edge.specs.Outside.{Rose, call_of, file_limit};
 ghost use Rattle.lnet_edge.specs.declared.outside.Direction.TheVariants.{Fetch};
-ghost use Rattle.lnet_session.specs.Effects.{Converts, Holds, Places, Reads};
+ghost use Rattle.lnet_generate.specs.Drawing.{generated};
+ghost use Rattle.lnet_session.specs.Effects.{Converts, Generates, Holds, Places, Reads};
 ghost use Rattle.lnet_session.specs.Formats.{IsMalformed, MeansIn};
 ghost use Rattle.lnet_session.specs.Sessions.{IsGood, state_of};
 
@@ -13,8 +14,10 @@ use crate::circuits::{build, export};
 use crate::session::{Session, Stop};
 use lnet_aiger::{ReadError as AigerError, read as read_aiger};
 use lnet_bench::{ReadError as BenchError, read as read_bench};
+use lnet_blif::{ReadError as BlifError, read as read_blif};
 use lnet_edge::{Circuit, FetchError, Files, Malformed, Name};
 use lnet_gates::Kind;
+use lnet_generate::generate;
 use lnet_replies::{Reply, Unmet};
 use lnet_script::ReadFormat;
 use lnet_store::{AddError, View};
@@ -40,6 +43,11 @@ fn circuit_of(alloc: Global, format: ReadFormat, bytes: &[u8]) -> Result<Circuit
             Ok(circuit) => Ok(circuit),
             Err(AigerError::Malformed(broken)) => Err(LoadError::Malformed(broken)),
             Err(AigerError::NoMemory) => Err(LoadError::NoMemory),
+        },
+        ReadFormat::Blif => match read_blif(alloc, bytes) {
+            Ok(circuit) => Ok(circuit),
+            Err(BlifError::Malformed(broken)) => Err(LoadError::Malformed(broken)),
+            Err(BlifError::NoMemory) => Err(LoadError::NoMemory),
         },
         ReadFormat::Bench => match read_bench(alloc, bytes) {
             Ok(circuit) => Ok(circuit),
@@ -87,6 +95,31 @@ impl Session {
             }
             Err(LoadError::NoMemory) => Err(Stop::NoMemory),
         }
+    }
+
+    /// Puts the network of the circuit in place that is generated from the start.
+    pub(crate) fn generate(
+        &mut self,
+        alloc: Global,
+        kind: Kind,
+        inputs: u32,
+        gates: u32,
+        outputs: u32,
+        start: u64,
+    ) -> Result<Reply, Stop>
+        requires inputs { (1 ≤ inputs) × (inputs ≤ 4096) }
+        requires gates { gates ≤ 262144 }
+        requires outputs { outputs ≤ 4096 }
+        requires good { IsGood (λ b. ⟦<dyn View as View>⟧ b.vtable) self.old }
+        ensures generates { IfOk result (λ answer. (source : Option CircuitValue) × Generates (state_of (λ b. ⟦<dyn View as View>⟧ b.vtable) self.old) kind (generated kind inputs gates outputs start) answer source (state_of (λ b. ⟦<dyn View as View>⟧ b.vtable) self.new)) }
+        ensures err { OnErr result (state_of (λ b. ⟦<dyn View as View>⟧ b.vtable) self.new ≡ state_of (λ b. ⟦<dyn View as View>⟧ b.vtable) self.old) }
+        ensures memory { IfErr result (λ stop. stop ≡ Stop.NoMemory) }
+        ensures good { IsGood (λ b. ⟦<dyn View as View>⟧ b.vtable) self.new }
+    {
+        let Ok(circuit) = generate(alloc, kind, inputs, gates, outputs, start) else {
+            return Err(Stop::NoMemory);
+        };
+        self.place_circuit(alloc, kind, &circuit)
     }
 
     /// Puts the network of another kind in place that computes the same.

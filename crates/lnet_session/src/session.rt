@@ -4,13 +4,14 @@ ghost use Rattle.std.specs.Prelude.{◌≡◌, [], map, option_map, Some, None, 
 ghost use Rattle.lnet_any.specs.AnyNets.{network_in, views_in};
 ghost use Rattle.lnet_any.specs.Forms.{form_of};
 ghost use Rattle.lnet_subscriptions.specs.Kept.{AreDetached};
-ghost use Rattle.lnet_subscriptions.specs.Rolls.{all_shelved};
+ghost use Rattle.std.specs.List.{count_by};
+ghost use Rattle.lnet_subscriptions.specs.Rolls.{all_shelved, same_kind};
 ghost use Rattle.lnet_session.specs.Effects.{SaysCounts};
 ghost use Rattle.lnet_session.specs.Made.{IsSound};
 ghost use Rattle.lnet_session.specs.Sessions.{IsAtRest, IsGood, FitNames, state_of};
 
 use lnet_any::AnyNet;
-use lnet_model::ViewSpec;
+use lnet_model::{ViewKind, ViewSpec};
 use lnet_names::Names;
 use lnet_replies::Reply;
 use lnet_store::View;
@@ -97,6 +98,13 @@ impl Session {
         ensures { result.now ≡ (state_of (λ b. ⟦<dyn View as View>⟧ b.vtable) self.now).roll.live }
     {
         self.views.live()
+    }
+
+    /// How many views of the kind are on the shelf. Linear in the shelf.
+    pub fn shelf_len(&self, kind: ViewKind) -> usize
+        ensures { result ≡ count_by (same_kind kind) (state_of (λ b. ⟦<dyn View as View>⟧ b.vtable) self.now).roll.shelf }
+    {
+        self.views.shelf_len(kind)
     }
 
     /// Puts all live views on the shelf.

@@ -53,6 +53,9 @@ impl Session {
                 self.read_file(alloc, *format, name, *kind, files)
             }
             Command::Write(format, name) => self.write_file(alloc, *format, name, files),
+            Command::Gen(kind, inputs, gates, outputs, start) => {
+                self.generate(alloc, *kind, *inputs, *gates, *outputs, *start)
+            }
             Command::View(spec) => self.view(*spec),
             Command::Drop(number) => self.put_back(*number),
             Command::Ask(number, _, node) => Ok(self.ask_level(*number, Node(*node))),

@@ -139,7 +139,7 @@ pub fn run<F: Files, S: Sink>(
 ) -> Outcome
     requires detached { AreDetached spec_of kit.views.items }
     // How the run went, what it put, and that each output of the network that it leaves computes the same function as
-    // in the file last read.
+    // in the circuit last read or generated.
     ensures outcome { IsOutcome (map string_bytes words.now) result.status
         (record { state = record { held = None; roll = record { live = []; next = 1; shelf = map kind_of kit.views.items } }; contents = F.contents files.old; written = S.written out.old; file_faults = F.faults files.old; last = F.last files.old; sink_faults = S.faults out.old })
         (record { state = state_of (λ b. ⟦<dyn View as View>⟧ b.vtable) result.session; contents = F.contents files.new; written = S.written out.new; file_faults = F.faults files.new; last = F.last files.new; sink_faults = S.faults out.new }) }

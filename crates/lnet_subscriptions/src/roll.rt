@@ -1,7 +1,7 @@
 //! Attaching views from the shelf, and putting them back.
 
 ghost use Rattle.std.specs.Prelude.{◌≡◌, ◌≢◌, ◌≤◌, ◌<◌, ◌+◌, ◌^◌, ◌↔◌, [], map, None, Some, Err, IfOk, IfSome, IsSome, IsSomeAnd, OnOk, OnErr, ◌++◌, ◌∷◌, ◌-◌, ℕ, length, option_map, slice_get, slice_index_or, vec_len, vec_capacity};
-ghost use Rattle.std.specs.List.{remove, insert as inserted};
+ghost use Rattle.std.specs.List.{count_by, remove, insert as inserted};
 ghost use Rattle.lnet_model.specs.declared.view_spec.ViewSpec.{ViewSpec as SpecValue};
 ghost use Rattle.lnet_model.specs.Answers.{IsSpec, kind_for};
 ghost use Rattle.lnet_model.specs.Levels.{level};
@@ -18,7 +18,7 @@ use lnet_gates::Node;
 use lnet_model::{ViewKind, ViewSpec};
 use lnet_network::ViewId;
 use lnet_store::View;
-use std::alloc::{AllocError, Global};
+use std::alloc::AllocError;
 
 /// Why no view was attached. Nothing changed.
 #[derive(Clone, Copy, Debug, PartialEq, Eq)]
@@ -87,20 +87,6 @@ pub struct Subscriptions {
 }
 
 impl Subscriptions {
-    /// No live view, and these, detached, on the shelf. The first view gets the number 1. It takes no memory.
-    pub fn new(alloc: Global, shelf: Vec<Box<dyn View>>) -> Subscriptions
-        requires { AreDetached spec_of shelf.items }
-        ensures roll { roll_of kind_of result ≡ record { live = []; next = 1; shelf = map kind_of shelf.items } }
-        ensures rest { Rest spec_of result }
-    {
-        Subscriptions {
-            live: Vec::new(alloc),
-            ids: Vec::new(alloc),
-            next: 1,
-            shelf,
-        }
-    }
-
     /// The live views, each by its number and spec, ascending. Constant time.
     pub fn live(&self) -> &[(u32, ViewSpec)]
         ensures { result.now ≡ (roll_of kind_of self.now).live }
@@ -113,6 +99,19 @@ impl Subscriptions {
         ensures { result ≡ (roll_of kind_of self.now).next }
     {
         self.next
+    }
+
+    /// How many views of the kind are on the shelf. Linear in the shelf.
+    pub fn shelf_len(&self, kind: ViewKind) -> usize
+        ensures { result ≡ count_by (same_kind kind) (roll_of kind_of self.now).shelf }
+    {
+        let mut count = 0;
+        for i in 0..self.shelf.len() {
+            if is_kind(kind, kind_of_view(&self.shelf[i])) {
+                count += 1;
+            }
+        }
+        count
     }
 
     /// The place of the first view of the kind on the shelf. Linear in the shelf.

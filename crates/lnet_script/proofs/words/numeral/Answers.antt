@@ -10,7 +10,7 @@ pub returns-in-Ok : goal.returns-in-Ok
 returns-in-Ok c =
     let ds = c.args.digits.now in
     let first : 1 < length ds → get_or ds 0 0 ≡ 48 → ⊥ = λ long zero. elim c.else-digits-gt1.branch [ else-digits-gt1-via-then-digits-gt1+else-digits-eq48 w ↦ omega arith | else-digits-gt1-via-else-digits-gt1 w ↦ omega arith ] in
-    let parsed = subst (λ (t : List ℕ). ParsesUnsigned 32 10 t c.parse.result) c.in-Ok.ensures.cases.0 c.parse.ensures.value.0 in
+    let parsed = subst (λ (t : List ℕ). ParsesUnsigned 64 10 t c.parse.result) c.in-Ok.ensures.cases.0 c.parse.ensures.value.0 in
     rw c.ok.ensures.value (numeral_is ds c.parse.result c.requires first parsed)
 
 pub returns-in-Err : goal.returns-in-Err

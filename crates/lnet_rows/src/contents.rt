@@ -1,0 +1,282 @@
+//! Contents of each format, right and wrong, that are read as the first command of a script, and generated circuits.
+
+use crate::runs::{compare, status_of};
+use lnet_edge::{MemoryFiles, MemorySink};
+use std::alloc::{AllocError, Global};
+use std::process::Abort;
+use std::test::Fail;
+
+/// A file, a script that reads it, and what its run tells.
+struct Content {
+    name: &'static str,
+    bytes: &'static [u8],
+    script: &'static str,
+    transcript: &'static str,
+    status: u8,
+}
+
+/// Runs the script over the file, and compares what it tells.
+fn check<R: Abort>(rt: &R, alloc: Global, content: &Content) -> Result<(), AllocError> {
+    let mut files = MemoryFiles::new(alloc, Vec::new(alloc));
+    files.set(content.name, content.bytes)?;
+    let mut words = Vec::new(alloc);
+    words.push(String::from_str(alloc, "lognet")?)?;
+    words.push(String::from_str(alloc, content.script)?)?;
+    compare(
+        rt,
+        alloc,
+        &words,
+        content.transcript,
+        content.status,
+        &mut files,
+        Vec::new(alloc),
+    )
+}
+
+const CONTENTS: [Content; 22] = [
+    Content {
+        name: "forward.aag",
+        bytes: b"aag 5 2 0 1 3\n2\n4\n10\n10 8 6\n6 2 4\n8 3 5\n",
+        script: "read aiger forward.aag aig; print",
+        transcript: "network aig inputs 2 outputs 1 gates 3\nnode 0 false\nnode 1 input 0\nnode 2 input 1\nnode 3 and !1 !2\nnode 4 and 1 2\nnode 5 and 3 4\noutput 0 5\n",
+        status: 0,
+    },
+    Content {
+        name: "cycle.aag",
+        bytes: b"aag 4 2 0 1 2\n2\n4\n6\n6 8 2\n8 6 4\n",
+        script: "read aiger cycle.aag aig",
+        transcript: "unmet 1 Malformed 0 Cycle\n",
+        status: 1,
+    },
+    Content {
+        name: "empty.aag",
+        bytes: b"aag 0 0 0 0 0",
+        script: "read aiger empty.aag aig; write aag x",
+        transcript: "network aig inputs 0 outputs 0 gates 0\nwrote 14\n",
+        status: 0,
+    },
+    Content {
+        name: "cut.aig",
+        bytes: b"aig 3 2 0 1 1\n6\n\x82",
+        script: "read aiger cut.aig xag",
+        transcript: "unmet 1 Malformed 3 Missing\n",
+        status: 1,
+    },
+    Content {
+        name: "zero.aig",
+        bytes: b"aig 3 2 0 1 1\n6\n\x00\x00",
+        script: "read aiger zero.aig aig",
+        transcript: "unmet 1 Malformed 3 Delta\n",
+        status: 1,
+    },
+    Content {
+        name: "and.aig",
+        bytes: b"aig 3 2 0 1 1\n6\n\x02\x02",
+        script: "read aiger and.aig aig; write aig b.aig",
+        transcript: "network aig inputs 2 outputs 1 gates 1\nwrote 18\n",
+        status: 0,
+    },
+    Content {
+        name: "t.blif",
+        bytes: b".model t\n.inputs a \\\n b\n.inputs c # more\n.outputs f g k\n.names a b c f\n11- 0\n--1 0\n.names g\n.names k\n1\n.end\n",
+        script: "read blif t.blif aig; print",
+        transcript: "network aig inputs 3 outputs 3 gates 2\nnode 0 false\nnode 1 input 0\nnode 2 input 1\nnode 3 input 2\nnode 4 and 1 2\nnode 5 and !3 !4\noutput 0 5\noutput 1 0\noutput 2 !0\n",
+        status: 0,
+    },
+    Content {
+        name: "wide.blif",
+        bytes: b".inputs a0 a1 a2 a3 a4 a5 a6 a7 a8 a9 a10 a11 a12 a13 a14 a15 a16 a17 a18 a19\n.outputs f\n.names a0 a1 a2 a3 a4 a5 a6 a7 a8 a9 a10 a11 a12 a13 a14 a15 a16 a17 a18 a19 f\n11111111111111111111 1\n",
+        script: "read blif wide.blif klut; stats",
+        transcript: "network klut inputs 20 outputs 1 gates 19\nstats klut inputs 20 outputs 1 gates 19 depth 19\n",
+        status: 0,
+    },
+    Content {
+        name: "latch.blif",
+        bytes: b".model t\n.inputs a\n.outputs q\n.latch a q 0\n.end\n",
+        script: "read blif latch.blif aig",
+        transcript: "unmet 1 Malformed 4 Sequential\n",
+        status: 1,
+    },
+    Content {
+        name: "l.bench",
+        bytes: b"INPUT(a)\nINPUT(b)\nOUTPUT(f)\nf = LUT 0x2 (a, b)\n",
+        script: "read bench l.bench klut; print; convert aig; print",
+        transcript: "network klut inputs 2 outputs 1 gates 1\nnode 0 false\nnode 1 input 0\nnode 2 input 1\nnode 3 lut 2 1 2\noutput 0 3\nnetwork aig inputs 2 outputs 1 gates 1\nnode 0 false\nnode 1 input 0\nnode 2 input 1\nnode 3 and 1 !2\noutput 0 3\n",
+        status: 0,
+    },
+    Content {
+        name: "bad",
+        bytes: b"aag 4294967296 0 0 0 0\n",
+        script: "read aiger bad aig",
+        transcript: "unmet 1 Malformed 1 Header\n",
+        status: 1,
+    },
+    Content {
+        name: "bad",
+        bytes: b"aag 1 1 0 0 0\n2\n2\n",
+        script: "read aiger bad aig",
+        transcript: "unmet 1 Malformed 3 Symbol\n",
+        status: 1,
+    },
+    Content {
+        name: "bad",
+        bytes: b"aig 1 0 0 0 1\n\x82\x80\x80\x80\x80\x00",
+        script: "read aiger bad aig",
+        transcript: "unmet 1 Malformed 2 Delta\n",
+        status: 1,
+    },
+    Content {
+        name: "bad",
+        bytes: b"aag 1 1 0 0 0 1\n2\n",
+        script: "read aiger bad aig",
+        transcript: "unmet 1 Malformed 1 Property\n",
+        status: 1,
+    },
+    Content {
+        name: "bad",
+        bytes: b".model t\n.outputs f\n.names f\n2\n.end\n",
+        script: "read blif bad aig",
+        transcript: "unmet 1 Malformed 4 Cover\n",
+        status: 1,
+    },
+    Content {
+        name: "bad",
+        bytes: b".model t\n.inputs a a\n.end\n",
+        script: "read blif bad aig",
+        transcript: "unmet 1 Malformed 0 Twice\n",
+        status: 1,
+    },
+    Content {
+        name: "bad",
+        bytes: b"INPUT(a\n",
+        script: "read bench bad aig",
+        transcript: "unmet 1 Malformed 1 Syntax\n",
+        status: 1,
+    },
+    Content {
+        name: "bad",
+        bytes: b"INPUT(a)\nINPUT(b)\nf = LUT 0x10 (a, b)\n",
+        script: "read bench bad aig",
+        transcript: "unmet 1 Malformed 3 Cover\n",
+        status: 1,
+    },
+    Content {
+        name: "bad",
+        bytes: b"INPUT(a)\nf = FOO(a)\n",
+        script: "read bench bad aig",
+        transcript: "unmet 1 Malformed 2 Unsupported\n",
+        status: 1,
+    },
+    Content {
+        name: "none",
+        bytes: b"",
+        script: "gen aig 64 4000 32 7; stats",
+        transcript: "network aig inputs 64 outputs 32 gates 2382\nstats aig inputs 64 outputs 32 gates 2382 depth 70\n",
+        status: 0,
+    },
+    Content {
+        name: "none",
+        bytes: b"",
+        script: "gen aig 0 1 1 1",
+        transcript: "error script 1\n",
+        status: 2,
+    },
+    Content {
+        name: "none",
+        bytes: b"",
+        script: "gen aig 3 5 2 1; write aag g.aag; read aiger g.aag xag",
+        transcript: "network aig inputs 3 outputs 2 gates 1\nwrote 30\nnetwork xag inputs 3 outputs 2 gates 1\n",
+        status: 0,
+    },
+];
+
+#[test]
+fn contents(rt: HostRuntime) -> Result<(), Fail> {
+    let alloc = rt.alloc();
+    for content in &CONTENTS {
+        check(&rt, alloc, content)?;
+    }
+    Ok(())
+}
+
+/// A binary file of one gate.
+const BINARY: &[u8] = b"aig 3 2 0 1 1\n6\n\x02\x02";
+
+/// What is told of the file's first bytes.
+fn told(count: usize) -> &'static str {
+    match count {
+        0 => "unmet 2 Malformed 1 Missing\n",
+        1..=12 => "unmet 2 Malformed 1 Header\n",
+        13 | 14 => "unmet 2 Malformed 2 Missing\n",
+        15..=17 => "unmet 2 Malformed 3 Missing\n",
+        _ => "network aig inputs 2 outputs 1 gates 1\n",
+    }
+}
+
+/// Reads the first bytes of the binary file behind another, and compares what is told.
+fn check_cut<R: Abort>(rt: &R, alloc: Global, count: usize) -> Result<(), AllocError> {
+    let mut files = MemoryFiles::new(alloc, Vec::new(alloc));
+    files.set("one.aag", b"aag 0 0 0 1 0\n1\n")?;
+    files.set("cut.aig", BINARY.get(..count).unwrap_or(BINARY))?;
+    let mut words = Vec::new(alloc);
+    words.push(String::from_str(alloc, "lognet")?)?;
+    words.push(String::from_str(alloc, "read aiger one.aag aig; read aiger cut.aig aig")?)?;
+    let line = told(count);
+    let transcript = format!(in alloc; "network aig inputs 0 outputs 1 gates 0\n{line}")?;
+    let status = if count < BINARY.len() { 1 } else { 0 };
+    compare(
+        rt,
+        alloc,
+        &words,
+        &transcript,
+        status,
+        &mut files,
+        Vec::new(alloc),
+    )
+}
+
+#[test]
+fn truncated(rt: HostRuntime) -> Result<(), Fail> {
+    let alloc = rt.alloc();
+    for count in 0..=BINARY.len() {
+        check_cut(&rt, alloc, count)?;
+    }
+    Ok(())
+}
+
+/// A file of six gates.
+const C17: &[u8] =
+    b"INPUT(1)\nINPUT(2)\nINPUT(3)\nINPUT(6)\nINPUT(7)\nOUTPUT(22)\nOUTPUT(23)\n10 = NAND(1, 3)\n11 = NAND(3, 6)\n16 = NAND(2, 11)\n19 = NAND(11, 7)\n22 = NAND(10, 16)\n23 = NAND(16, 19)\n";
+
+/// Reads the first bytes of the file behind another: where they mean no circuit, the network in place stays.
+fn check_prefix<R: Abort>(rt: &R, alloc: Global, count: usize) -> Result<(), AllocError> {
+    let mut files = MemoryFiles::new(alloc, Vec::new(alloc));
+    files.set("one.aag", b"aag 0 0 0 1 0\n1\n")?;
+    files.set("cut.bench", C17.get(..count).unwrap_or(C17))?;
+    let mut words = Vec::new(alloc);
+    words.push(String::from_str(alloc, "lognet")?)?;
+    words.push(String::from_str(
+        alloc,
+        "read aiger one.aag aig; read bench cut.bench aig; stats",
+    )?)?;
+    let mut out = MemorySink::new(alloc, Vec::new(alloc));
+    let status = status_of(alloc, &words, &mut files, &mut out)?;
+    if status == 1 {
+        assert!(rt;
+            out.written()
+                .ends_with(b"\nstats aig inputs 0 outputs 1 gates 0 depth 0\n")
+        );
+    } else {
+        assert_eq!(rt; status, 0);
+    }
+    Ok(())
+}
+
+#[test]
+fn prefixes(rt: HostRuntime) -> Result<(), Fail> {
+    let alloc = rt.alloc();
+    for count in 0..=C17.len() {
+        check_prefix(&rt, alloc, count)?;
+    }
+    Ok(())
+}

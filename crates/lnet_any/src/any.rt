@@ -1,16 +1,24 @@
 //! A network of any of the four kinds. Each call is that of the network's own kind.
 
-ghost use Rattle.std.specs.Prelude.{◌≡◌, ◌≤◌, ◌<◌, ◌↔◌, ℕ, None, Some, IfOk, IfErr, IfSome, IsSome, IsSomeAnd, IsTrue, OnErr, length, option_map, slice_index_or, string_bytes};
+ghost use Rattle.std.specs.Prelude.{◌≡◌, ◌≤◌, ◌<◌, ◌↔◌, ℕ, Bool, None, Some, IfOk, IfErr, IfSome, IsSome, IsSomeAnd, IsTrue, OnErr, length, option_map, slice_index_or, string_bytes};
+ghost use Rattle.lnet_model.specs.Along.{Depends};
 ghost use Rattle.lnet_model.specs.Answers.{IsSpec, kind_for};
+ghost use Rattle.lnet_model.specs.Changes.{IsGateAt};
+ghost use Rattle.lnet_model.specs.Fanouts.{references};
+ghost use Rattle.lnet_model.specs.Values.{network_outputs, node_value, signal_value};
+ghost use Rattle.lnet_hashed.specs.Strashed.{IsStrashed};
+ghost use Rattle.lnet_substitution.specs.Substitutions.{Substitutes};
+ghost use Rattle.lnet_any.specs.Forms.{form_of};
 ghost use Rattle.lnet_model.specs.Networks.{IsLive, gate_count as gates_in};
 ghost use Rattle.lnet_model.specs.Dags.{IsStored};
 ghost use Rattle.lnet_model.specs.Levels.{depth as depth_of};
 ghost use Rattle.lnet_network.specs.Kept.{level_kept};
-ghost use Rattle.lnet_hashed.specs.Views.{EachSlot, Fits, StandsAs, IsLeastEmpty, OthersSame};
+ghost use Rattle.lnet_hashed.specs.Views.{EachSlot, Fits, Kept, SlotsKept, StandsAs, IsLeastEmpty, OthersSame};
 ghost use Rattle.lnet_print.specs.Printed.{print_text};
 ghost use Rattle.lnet_any.specs.AnyNets.{core_in, network_in, views_in};
 
-use lnet_gates::{AigGates, Kind, KlutGates, MigGates, Node, XagGates};
+use crate::substituting::substitute;
+use lnet_gates::{AigGates, Gates, Kind, KlutGates, MigGates, Node, Signal, XagGates};
 use lnet_network::{Network, ViewId};
 use lnet_print::{gate_count, print};
 use lnet_store::{View, ViewSpec};
@@ -90,6 +98,34 @@ impl AnyNet {
         }
     }
 
+    /// Whether a gate has the number. Constant time.
+    pub fn is_gate(&self, n: Node) -> bool
+        ensures { IsTrue result ↔ IsGateAt (network_in self.now) n.0 }
+    {
+        match self {
+            AnyNet::Aig(net) => is_gate(net, n),
+            AnyNet::Xag(net) => is_gate(net, n),
+            AnyNet::Mig(net) => is_gate(net, n),
+            AnyNet::Klut(net) => is_gate(net, n),
+        }
+    }
+
+    /// Whether a walk along fanins from the signal's node comes to the node, which may be the signal's own: `false` where the signal's
+    /// node isn't live. Linear in the nodes that the signal depends on and their fanins; it takes no memory.
+    pub fn depends_on(&mut self, s: Signal, n: Node) -> bool
+        requires in_step { EachSlot (Fits (λ b. (⟦<dyn View as View>⟧ b.vtable).spec_of b.value) (λ b. (⟦<dyn View as View>⟧ b.vtable).kept b.value) (λ b. (⟦<dyn View as View>⟧ b.vtable).room b.value) (network_in self.old) (core_in self.old).room) (views_in self.old) }
+        ensures answer { IsTrue result ↔ Depends (network_in self.old) s n.0 }
+        ensures same { self.new ≡ self.old }
+        ensures in_step { EachSlot (Fits (λ b. (⟦<dyn View as View>⟧ b.vtable).spec_of b.value) (λ b. (⟦<dyn View as View>⟧ b.vtable).kept b.value) (λ b. (⟦<dyn View as View>⟧ b.vtable).room b.value) (network_in self.new) (core_in self.new).room) (views_in self.new) }
+    {
+        match self {
+            AnyNet::Aig(net) => net.depends_on(s, n),
+            AnyNet::Xag(net) => net.depends_on(s, n),
+            AnyNet::Mig(net) => net.depends_on(s, n),
+            AnyNet::Klut(net) => net.depends_on(s, n),
+        }
+    }
+
     /// The network's depth: the greatest level of an output's node, 0 without outputs. It takes memory for the levels, and is
     /// refused only where there is none. Linear in the network.
     pub fn depth(&self) -> Result<u32, AllocError>
@@ -163,6 +199,34 @@ impl AnyNet {
         }
     }
 
+    /// Replaces each reference to a gate by a signal that is live and doesn't depend on it, complement included, and lets gates of one
+    /// structure be one, many levels up where need be; the gates that lose their last reference go. Each view is told each single
+    /// change, after it was made. It takes no memory, and can't be refused. What it costs `Network::substitute` says.
+    pub fn substitute(&mut self, gate: Node, signal: Signal)
+        requires gate { IsGateAt (network_in self.old) gate.0 }
+        requires live { IsLive (network_in self.old) signal.node.0 }
+        requires free { Depends (network_in self.old) signal gate.0 → ⊥ }
+        requires in_step { EachSlot (Fits (λ b. (⟦<dyn View as View>⟧ b.vtable).spec_of b.value) (λ b. (⟦<dyn View as View>⟧ b.vtable).kept b.value) (λ b. (⟦<dyn View as View>⟧ b.vtable).room b.value) (network_in self.old) (core_in self.old).room) (views_in self.old) }
+        ensures substitutes { Substitutes (network_in self.old).kind (form_of (network_in self.old).kind) (network_in self.old) gate.0 signal (network_in self.new) }
+        // Equal functions leave the outputs as they were.
+        ensures outputs { ((a : ℕ → Bool) → signal_value (network_in self.old) a signal ≡ node_value (network_in self.old) a gate.0) → (a : ℕ → Bool) → network_outputs (network_in self.new) a ≡ network_outputs (network_in self.old) a }
+        ensures stored { IsStored (network_in self.new) }
+        ensures strashed { IsStrashed (network_in self.new).kind (form_of (network_in self.new).kind) (network_in self.new) }
+        ensures tidy { ((n : ℕ) → IsGateAt (network_in self.old) n → 0 < references (network_in self.old) n) → (n : ℕ) → IsGateAt (network_in self.new) n → 0 < references (network_in self.new) n }
+        ensures kind { (network_in self.new).kind ≡ (network_in self.old).kind }
+        ensures inputs { (network_in self.new).inputs ≡ (network_in self.old).inputs }
+        ensures outputs_count { length (network_in self.new).outputs ≡ length (network_in self.old).outputs }
+        ensures in_step { EachSlot (Fits (λ b. (⟦<dyn View as View>⟧ b.vtable).spec_of b.value) (λ b. (⟦<dyn View as View>⟧ b.vtable).kept b.value) (λ b. (⟦<dyn View as View>⟧ b.vtable).room b.value) (network_in self.new) (core_in self.new).room) (views_in self.new) }
+        ensures kept { SlotsKept (Kept (λ b. (⟦<dyn View as View>⟧ b.vtable).kind_of b.value) (λ b. (⟦<dyn View as View>⟧ b.vtable).spec_of b.value) (λ b. (⟦<dyn View as View>⟧ b.vtable).room b.value)) (views_in self.old) (views_in self.new) }
+    {
+        match self {
+            AnyNet::Aig(net) => substitute(net, gate, signal),
+            AnyNet::Xag(net) => substitute(net, gate, signal),
+            AnyNet::Mig(net) => substitute(net, gate, signal),
+            AnyNet::Klut(net) => substitute(net, gate, signal),
+        }
+    }
+
     /// The level that the view with the id keeps for the node: `None` exactly where no live view has the id, or it keeps no level
     /// of the node. Constant time.
     pub fn level(&self, id: ViewId, n: Node) -> Option<u32>
@@ -175,4 +239,11 @@ impl AnyNet {
             AnyNet::Klut(net) => net.level(id, n),
         }
     }
+}
+
+/// Whether a gate of the network of one kind has the number.
+fn is_gate<G: Gates>(net: &Network<G>, n: Node) -> bool
+    ensures { IsTrue result ↔ IsGateAt net.now.core.network n.0 }
+{
+    net.gate_of(n).is_some()
 }

@@ -2,6 +2,7 @@
 #![tactic(auto)]
 
 mod any;
+mod substituting;
 #[cfg(test)]
 mod tests;
 

@@ -1,5 +1,6 @@
 -- The text that a command leaves in the transcript.
-use Rattle.std.specs.Prelude.{ℕ, Bool, true, false, List, [], ◌∷◌, ◌++◌, codes, string_bytes}
+use Rattle.std.specs.Prelude.{ℕ, zero, suc, ◌/◌, ◌%◌, ◌==◌, Bool, true, false, List, [], ◌∷◌, ◌++◌, codes, string_bytes, if◌then◌else◌}
+use Rattle.std.specs.List.{flat_map}
 use Rattle.std.specs.Fmt.{decimal}
 use Rattle.lnet_edge.specs.declared.fault.Fault.{Fault}
 use Rattle.lnet_edge.specs.declared.fault.Fault.TheVariants as faults
@@ -47,6 +48,20 @@ view_word views.Depth = codes "depth"
 view_word views.Fanout = codes "fanout"
 view_word (views.Cuts rule) = codes "cuts " ++ (decimal rule.size ++ (32 ∷ decimal rule.limit))
 
+-- the character of a value
+abbrev pub bit_text : Bool → List ℕ
+bit_text bit = if bit then codes "1" else codes "0"
+
+-- a character for each value, `-` for none
+abbrev pub bits_word : List Bool → List ℕ
+bits_word [] = codes "-"
+bits_word (b ∷ bs) = bit_text b ++ flat_map bit_text bs
+
+-- the values of so many inputs under an assignment: the first has the least bit
+abbrev pub bits_of : ℕ → ℕ → List Bool
+bits_of zero assignment = []
+bits_of (suc n) assignment = (assignment % 2 == 1) ∷ bits_of n (assignment / 2)
+
 -- why a command was not met, after its index
 abbrev pub cause_text : Unmet → List ℕ
 cause_text unmet.NoNetwork = codes "NoNetwork"
@@ -57,6 +72,10 @@ cause_text unmet.NoView = codes "NoView"
 cause_text unmet.ShelfEmpty = codes "ShelfEmpty"
 cause_text unmet.NoNode = codes "NoNode"
 cause_text unmet.WrongKind = codes "WrongKind"
+cause_text unmet.Cycle = codes "Cycle"
+cause_text (unmet.Unequal inputs assignment) = codes "Unequal " ++ bits_word (bits_of inputs assignment)
+cause_text unmet.TooWide = codes "TooWide"
+cause_text unmet.BadBits = codes "BadBits"
 
 -- the line of a command that was not met, the index counting commands from 1
 abbrev pub unmet_text : ℕ → Unmet → List ℕ
@@ -74,5 +93,7 @@ reply_text index (reply.Viewed number spec) = codes "view " ++ (decimal number +
 reply_text index (reply.Dropped number) = codes "dropped " ++ (decimal number ++ 10 ∷ [])
 reply_text index (reply.Level node level) = codes "level " ++ (decimal node ++ (32 ∷ (decimal level ++ 10 ∷ [])))
 reply_text index (reply.Printed text) = string_bytes text
+reply_text index (reply.Simulated bits) = codes "outputs " ++ (bits_word bits.items ++ 10 ∷ [])
+reply_text index (reply.Merged node gates) = codes "merged " ++ (decimal node ++ (codes " gates " ++ (decimal gates ++ 10 ∷ [])))
 reply_text index (reply.Stats kind inputs outputs gates depth) = codes "stats " ++ (counts_text kind inputs outputs gates ++ (codes " depth " ++ (decimal depth ++ 10 ∷ [])))
 reply_text index (reply.Unmet cause) = unmet_text index cause

@@ -2,7 +2,7 @@
 
 ghost use Rattle.std.specs.Prelude.{◌≡◌, ◌++◌, ◌∷◌, [], codes, not, IfOk, string_bytes};
 ghost use Rattle.std.specs.Fmt.{decimal};
-ghost use Rattle.lnet_replies.specs.Texts.{cause_text, counts_text, fault_name, is_unmet, kind_word, reply_text, view_word};
+ghost use Rattle.lnet_replies.specs.Texts.{bit_text, bits_of, bits_word, cause_text, counts_text, fault_name, is_unmet, kind_word, reply_text, view_word};
 
 use lnet_edge::Fault;
 use lnet_gates::Kind;
@@ -29,6 +29,14 @@ pub enum Unmet {
     NoNode,
     /// The network is of another kind than the command takes.
     WrongKind,
+    /// The signal depends on the gate.
+    Cycle,
+    /// The two differ; of the assignments of so many inputs under which they do, this is the least. Input `i` is bit `i`.
+    Unequal { inputs: u32, assignment: u32 },
+    /// The network has more than 16 inputs.
+    TooWide,
+    /// The word isn't one `0` or `1` for each input.
+    BadBits,
 }
 
 /// What a command answers. It determines the text in the transcript and whether the command was met.
@@ -57,6 +65,13 @@ pub enum Reply {
     },
     /// The lines of the network.
     Printed(String),
+    /// The outputs have these values.
+    Simulated(Vec<bool>),
+    /// The gate gave way, and so many gates are left.
+    Merged {
+        node: u32,
+        gates: u32,
+    },
     /// The network's kind, counts and depth.
     Stats {
         kind: Kind,
@@ -129,6 +144,40 @@ fn fault_name(fault: Fault) -> &'static str
     }
 }
 
+/// The character of a value.
+fn bit_text(bit: bool) -> &'static str
+    ensures { result.now ≡ bit_text bit }
+{
+    if bit { "1" } else { "0" }
+}
+
+/// A character for each value, `-` for none.
+fn bits_word(alloc: Global, bits: &[bool]) -> Result<String, AllocError>
+    ensures { IfOk result (λ text. string_bytes text ≡ bits_word bits.now) }
+{
+    if bits.is_empty() {
+        return format!(in alloc; "-");
+    }
+    let mut text = String::new(alloc);
+    for bit in bits {
+        text.push_str(bit_text(*bit))?;
+    }
+    Ok(text)
+}
+
+/// The values of so many inputs under an assignment: input `i` is bit `i`.
+fn bits_of(alloc: Global, inputs: u32, assignment: u32) -> Result<Vec<bool>, AllocError>
+    ensures { IfOk result (λ bits. bits.items ≡ bits_of inputs assignment) }
+{
+    let mut bits = Vec::new(alloc);
+    let mut rest = assignment;
+    for _place in 0..inputs {
+        bits.push(rest % 2 == 1)?;
+        rest /= 2;
+    }
+    Ok(bits)
+}
+
 /// The words of a cause.
 fn cause_words(alloc: Global, cause: Unmet) -> Result<String, AllocError>
     ensures { IfOk result (λ text. string_bytes text ≡ cause_text cause) }
@@ -145,6 +194,14 @@ fn cause_words(alloc: Global, cause: Unmet) -> Result<String, AllocError>
         Unmet::ShelfEmpty => format!(in alloc; "ShelfEmpty"),
         Unmet::NoNode => format!(in alloc; "NoNode"),
         Unmet::WrongKind => format!(in alloc; "WrongKind"),
+        Unmet::Cycle => format!(in alloc; "Cycle"),
+        Unmet::Unequal { inputs, assignment } => {
+            let bits = bits_of(alloc, inputs, assignment)?;
+            let word = bits_word(alloc, &bits)?;
+            format!(in alloc; "Unequal {word}")
+        }
+        Unmet::TooWide => format!(in alloc; "TooWide"),
+        Unmet::BadBits => format!(in alloc; "BadBits"),
     }
 }
 
@@ -191,6 +248,11 @@ pub fn text_of_reply(alloc: Global, index: u32, reply: Reply) -> Result<String, 
         Reply::Dropped(number) => format!(in alloc; "dropped {number}\n"),
         Reply::Level { node, level } => format!(in alloc; "level {node} {level}\n"),
         Reply::Printed(text) => Ok(text),
+        Reply::Simulated(bits) => {
+            let word = bits_word(alloc, &bits)?;
+            format!(in alloc; "outputs {word}\n")
+        }
+        Reply::Merged { node, gates } => format!(in alloc; "merged {node} gates {gates}\n"),
         Reply::Stats {
             kind,
             inputs,

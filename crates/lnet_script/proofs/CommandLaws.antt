@@ -5,14 +5,14 @@ use Rattle.std.specs.Fmt.{decimal}
 use Rattle.lnet_script.specs.declared.command.Query.TheVariants.{Level}
 use Rattle.lnet_model.specs.declared.view_spec.ViewSpec.TheVariants as views
 use Rattle.lnet_script.specs.declared.command.Command.{Command}
-use Rattle.lnet_script.specs.declared.command.Command.TheVariants.{Read, Write, Gen, View, Drop, Ask, Print, Stats, Convert}
+use Rattle.lnet_script.specs.declared.command.Command.TheVariants.{Read, Write, Gen, View, Drop, Ask, Print, Stats, Simulate, Merge, Convert}
 use Rattle.lnet_script.specs.declared.keywords.Verb.{Verb}
 use Rattle.lnet_script.specs.declared.keywords.Verb.TheVariants as verbs
-use Rattle.lnet_script.specs.Spelling.{kind_word, read_word, write_word, Spells}
+use Rattle.lnet_script.specs.Spelling.{signal_word, kind_word, read_word, write_word, Spells}
 use Rattle.lnet_script.specs.Given.{◌>>=◌}
-use Rattle.lnet_script.specs.Keywords.{verb_word, verb_of, kind_of, read_format_of, write_format_of, view_of, query_of, long_number_of, number_of, count_of, name_of}
-use Rattle.lnet_script.specs.Reading.{no_word, one_word, two_words, three_words, five_words, read_of, write_of, generate_of, attach_of, drop_of, ask_of, convert_of, behind, command_of}
-use Rattle.lnet_script.proofs.Digits.{number_is, number_again, count_is, count_again, long_number_is, long_number_again}
+use Rattle.lnet_script.specs.Keywords.{verb_word, verb_of, kind_of, read_format_of, write_format_of, view_of, query_of, long_number_of, number_of, signal_of, count_of, name_of}
+use Rattle.lnet_script.specs.Reading.{no_word, one_word, two_words, three_words, five_words, read_of, write_of, generate_of, attach_of, drop_of, ask_of, simulate_of, merge_of, convert_of, behind, command_of}
+use Rattle.lnet_script.proofs.Digits.{signal_is, signal_again, number_is, number_again, count_is, count_again, long_number_is, long_number_again}
 use Rattle.lnet_script.proofs.KeywordLaws.{verb_is, kind_is, kind_again, read_format_is, read_format_again, write_format_is, write_format_again, word_is, name_of_is, name_again}
 
 bind_some : {A B : Type 0} (r : Option A) (f : A → Option B) (y : B) → (r >>= f) ≡ Some y → (x : A) × (r ≡ Some x) × (f x ≡ Some y)
@@ -146,6 +146,26 @@ ask_is ws c e =
     subst (λ (d : Command). Spells (codes "ask" ∷ ws) d) same
     (subst (λ q. Spells (codes "ask" ∷ ws) (Ask v.0 q n.0)) query.1 (view.1, node.1, three_as (codes "ask") ws w.0 (decimal v.0) (codes "level") (decimal n.0) (three_left ws w.0 w.1) view.0 query.0 node.0))
 
+simulate_is : (ws : List (List ℕ)) (c : Command) → simulate_of ws ≡ Some c → Spells (codes "simulate" ∷ ws) c
+unfolding simulate_of
+simulate_is ws c e =
+    let w = bind_some (one_word ws) (λ w. name_of w >>= λ bits. Some (Simulate bits)) c e in
+    let b = bind_some (name_of w.0) (λ bits. Some (Simulate bits)) c w.2 in
+    let bits = name_of_is w.0 b.0 b.1 in
+    let same : Simulate b.0 ≡ c = some_is (Simulate b.0) c b.2 in
+    subst (λ (d : Command). Spells (codes "simulate" ∷ ws) d) same (bits.1, one_as (codes "simulate") ws w.0 b.0 (one_left ws w.0 w.1) bits.0)
+
+merge_is : (ws : List (List ℕ)) (c : Command) → merge_of ws ≡ Some c → Spells (codes "merge" ∷ ws) c
+unfolding merge_of
+merge_is ws c e =
+    let w = bind_some (two_words ws) (λ w. number_of w.0 >>= λ node. signal_of w.1 >>= λ x. Some (Merge node x)) c e in
+    let n = bind_some (number_of w.0.0) (λ node. signal_of w.0.1 >>= λ x. Some (Merge node x)) c w.2 in
+    let s = bind_some (signal_of w.0.1) (λ x. Some (Merge n.0 x)) c n.2 in
+    let node = number_is w.0.0 n.0 n.1 in
+    let signal = signal_is w.0.1 s.0 s.1 in
+    let same : Merge n.0 s.0 ≡ c = some_is (Merge n.0 s.0) c s.2 in
+    subst (λ (d : Command). Spells (codes "merge" ∷ ws) d) same (node.1, signal.1, two_as (codes "merge") ws w.0 (decimal n.0) (signal_word s.0) (two_left ws w.0 w.1) node.0 signal.0)
+
 convert_is : (ws : List (List ℕ)) (c : Command) → convert_of ws ≡ Some c → Spells (codes "convert" ∷ ws) c
 unfolding convert_of
 convert_is ws c e =
@@ -161,6 +181,8 @@ behind_is verbs.Gen ws c e = generate_is ws c e
 behind_is verbs.View ws c e = attach_is ws c e
 behind_is verbs.Drop ws c e = drop_is ws c e
 behind_is verbs.Ask ws c e = ask_is ws c e
+behind_is verbs.Simulate ws c e = simulate_is ws c e
+behind_is verbs.Merge ws c e = merge_is ws c e
 behind_is verbs.Convert ws c e = convert_is ws c e
 behind_is verbs.Print ws c e =
     let w = bind_some (no_word ws) (λ _. Some Print) c e in
@@ -181,7 +203,7 @@ command_is (w ∷ ws) c e =
 -- ---- what is spelled is read
 
 pub command_again : (words : List (List ℕ)) (c : Command) → Spells words c → command_of words ≡ Some c
-unfolding command_of read_of write_of generate_of attach_of drop_of ask_of convert_of
+unfolding command_of read_of write_of generate_of attach_of drop_of ask_of simulate_of merge_of convert_of
 command_again words (Read format name kind) is = rw is.1 (rw (read_format_again format, kind_again kind, name_again name is.0) refl)
 command_again words (Write format name) is = rw is.1 (rw (write_format_again format, name_again name is.0) refl)
 command_again words (Gen kind inputs gates outputs start) is = rw is.4 (rw (kind_again kind, count_again 1 4096 inputs is.0 (omega arith), count_again 0 262144 gates is.1 (omega arith), count_again 1 4096 outputs is.2 (omega arith), long_number_again start is.3) refl)
@@ -192,4 +214,6 @@ command_again words (Drop v) is = rw is.1 (rw (number_again v is.0) refl)
 command_again words (Ask v Level node) is = rw is.2 (rw (number_again v is.0, number_again node is.1) refl)
 command_again words Print is = rw is refl
 command_again words Stats is = rw is refl
+command_again words (Simulate bits) is = rw is.1 (rw (name_again bits is.0) refl)
+command_again words (Merge node s) is = rw is.2 (rw (number_again node is.0, signal_again s is.1) refl)
 command_again words (Convert kind) is = rw is (rw (kind_again kind) refl)

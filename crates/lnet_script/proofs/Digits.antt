@@ -1,6 +1,6 @@
 -- Digits of a word, and their value.
 use Rattle.std.proofs.Common.{◌≡◌, ℕ, zero, suc, ◌<◌, ◌^◌, Bool, true, false, List, length, get_or, Option, None, Some, Result, Ok, Err, refl, sym, ap, ◌∙◌, arith}
-use Rattle.std.specs.Prelude.{MatchOption, ◌&&◌, nat_lt, nat_le}
+use Rattle.std.specs.Prelude.{MatchOption, ◌&&◌, ◌==◌, nat_lt, nat_le, drop, [], ◌∷◌, cond}
 use Rattle.std.specs.Fmt.{decimal}
 use Rattle.std.proofs.lemmas.Fmt.{decimal-digits_value, digits_decimal, digits_value-decimal, decimal_nonempty, decimal_digit, first_decimal}
 use Rattle.std.proofs.lemmas.Option.{cond_some}
@@ -9,8 +9,9 @@ use Rattle.std.specs.Str.{all_ascii_digits}
 use Rattle.std.specs.Str.Parse.{digits_value, ParsesUnsigned}
 use Rattle.std.proofs.lemmas.Str.Parse.{IsNumeralModel, numerals_by_value, tells_all_ascii_digits, parse_digits}
 use Rattle.std.proofs.lemmas.Bool.Decides.{nat_tests}
-use Rattle.lnet_script.specs.Spelling.{IsBetween}
-use Rattle.lnet_script.specs.Keywords.{is_numeral, long_number_of, where_passes, number_of, count_of}
+use Rattle.lnet_gates.specs.declared.signal.Signal.{Signal}
+use Rattle.lnet_script.specs.Spelling.{IsBetween, signal_word}
+use Rattle.lnet_script.specs.Keywords.{is_numeral, long_number_of, where_passes, number_of, is_complemented, as_signal, signal_of, count_of}
 
 pub own : IsNumeralModel (λ ds. all_ascii_digits ds ≡ true) (digits_value 10)
 own = numerals_by_value _ tells_all_ascii_digits
@@ -93,3 +94,44 @@ count_again least most n between small =
     let high : nat_le n most ≡ true = grind (arith, nat_tests, between.1) in
     let t : (nat_le least n && nat_le n most) ≡ true = rw (low, high) refl in
     passes_on (λ n. nat_le least n && nat_le n most) (number_of (decimal n)) n (number_again n (omega (arith, between.1, small))) t
+
+-- ---- signals
+
+signal_same : (s t : Signal) → Some s ≡ Some t → s ≡ t
+signal_same s t e = cc
+
+signal_left : (complement : Bool) (o : Option ℕ) (s : Signal) → as_signal complement o ≡ Some s → (o ≡ Some s.node.0) × (s.complement ≡ complement)
+signal_left complement None s e = absurd cc
+signal_left complement (Some n) s e =
+    let same = signal_same (record { node = record { 0 = n }; complement = complement }) s e in
+    (ap (λ (t : Signal). Some t.node.0) same, sym (ap (λ (t : Signal). t.complement) same))
+
+complemented_word : (word : List ℕ) → is_complemented word ≡ true → word ≡ 33 ∷ drop 1 word
+complemented_word [] e = absurd cc
+complemented_word (b ∷ bs) e = let same : b ≡ 33 = grind (arith, nat_tests) in ap (λ x. x ∷ bs) same
+
+digits_plain : (word : List ℕ) → all_ascii_digits word ≡ true → is_complemented word ≡ false
+digits_plain [] e = refl
+digits_plain (b ∷ bs) e = grind (arith, nat_tests)
+
+pub signal_is : (word : List ℕ) (s : Signal) → signal_of word ≡ Some s → (word ≡ signal_word s) × (s.node.0 < 2 ^ 32)
+unfolding signal_of
+signal_is word s e = by (is_complemented word) refl e where
+  by : (t : Bool) → is_complemented word ≡ t → cond t (as_signal true (number_of (drop 1 word))) (as_signal false (number_of word)) ≡ Some s → (word ≡ signal_word s) × (s.node.0 < 2 ^ 32)
+  by true t h =
+      let l = signal_left true (number_of (drop 1 word)) s h in
+      let n = number_is (drop 1 word) s.node.0 l.0 in
+      (complemented_word word t ∙ ap (λ ds. 33 ∷ ds) n.0 ∙ sym (ap (λ c. cond c (33 ∷ decimal s.node.0) (decimal s.node.0)) l.1), n.1)
+  by false t h =
+      let l = signal_left false (number_of word) s h in
+      let n = number_is word s.node.0 l.0 in
+      (n.0 ∙ sym (ap (λ c. cond c (33 ∷ decimal s.node.0) (decimal s.node.0)) l.1), n.1)
+
+pub signal_again : (s : Signal) → s.node.0 < 2 ^ 32 → signal_of (signal_word s) ≡ Some s
+unfolding signal_of
+signal_again s small = by s.complement refl where
+  by : (c : Bool) → s.complement ≡ c → signal_of (cond s.complement (33 ∷ decimal s.node.0) (decimal s.node.0)) ≡ Some s
+  by true t = rw t (rw (number_again s.node.0 small, ← t) refl)
+  by false t =
+      let plain = digits_plain (decimal s.node.0) (digits_decimal own s.node.0 (omega arith)) in
+      rw t (rw (plain, number_again s.node.0 small, ← t) refl)

@@ -28,7 +28,7 @@ found_passes p (x ∷ xs) y e =
     ] refl e
 
 pub verb_is : (word : List ℕ) (v : Verb) → verb_of word ≡ Some v → word ≡ verb_word v
-verb_is word v e = sym ((bytes_eq-Decides (verb_word v) word).0 (found_passes (λ v. bytes_eq (verb_word v) word) (verbs.Read ∷ verbs.Write ∷ verbs.Gen ∷ verbs.View ∷ verbs.Drop ∷ verbs.Ask ∷ verbs.Print ∷ verbs.Stats ∷ verbs.Convert ∷ []) v e))
+verb_is word v e = sym ((bytes_eq-Decides (verb_word v) word).0 (found_passes (λ v. bytes_eq (verb_word v) word) (verbs.Read ∷ verbs.Write ∷ verbs.Gen ∷ verbs.View ∷ verbs.Drop ∷ verbs.Ask ∷ verbs.Print ∷ verbs.Stats ∷ verbs.Simulate ∷ verbs.Merge ∷ verbs.Convert ∷ []) v e))
 
 pub verb_again : (v : Verb) → verb_of (verb_word v) ≡ Some v
 verb_again verbs.Read = refl
@@ -39,6 +39,8 @@ verb_again verbs.Drop = refl
 verb_again verbs.Ask = refl
 verb_again verbs.Print = refl
 verb_again verbs.Stats = refl
+verb_again verbs.Simulate = refl
+verb_again verbs.Merge = refl
 verb_again verbs.Convert = refl
 
 pub kind_is : (word : List ℕ) (k : Kind) → kind_of word ≡ Some k → word ≡ kind_word k

@@ -1,7 +1,8 @@
 -- What one word stands for: a keyword, a number or a name.
-use Rattle.std.specs.Prelude.{ℕ, ◌^◌, Bool, not, ◌&&◌, ◌==◌, nat_lt, nat_le, List, [], ◌∷◌, length, slice_index, Option, Some, None, find, codes, if◌then◌else◌}
+use Rattle.std.specs.Prelude.{ℕ, ◌^◌, Bool, true, false, not, ◌&&◌, ◌==◌, nat_lt, nat_le, List, [], ◌∷◌, length, drop, slice_index, Option, Some, None, find, codes, if◌then◌else◌}
 use Rattle.std.specs.Str.{bytes_eq, all_ascii_digits}
 use Rattle.std.specs.Str.Parse.{digits_value}
+use Rattle.lnet_gates.specs.declared.signal.Signal.{Signal}
 use Rattle.lnet_gates.specs.declared.gate.Kind.{Kind}
 use Rattle.lnet_gates.specs.declared.gate.Kind.TheVariants.{Aig, Xag, Mig, Klut}
 use Rattle.lnet_script.specs.declared.command.Query.{Query}
@@ -27,11 +28,13 @@ verb_word verbs.Drop = codes "drop"
 verb_word verbs.Ask = codes "ask"
 verb_word verbs.Print = codes "print"
 verb_word verbs.Stats = codes "stats"
+verb_word verbs.Simulate = codes "simulate"
+verb_word verbs.Merge = codes "merge"
 verb_word verbs.Convert = codes "convert"
 
 -- the command that a word begins
 abbrev pub verb_of : List ℕ → Option Verb
-verb_of word = find (λ v. bytes_eq (verb_word v) word) (verbs.Read ∷ verbs.Write ∷ verbs.Gen ∷ verbs.View ∷ verbs.Drop ∷ verbs.Ask ∷ verbs.Print ∷ verbs.Stats ∷ verbs.Convert ∷ [])
+verb_of word = find (λ v. bytes_eq (verb_word v) word) (verbs.Read ∷ verbs.Write ∷ verbs.Gen ∷ verbs.View ∷ verbs.Drop ∷ verbs.Ask ∷ verbs.Print ∷ verbs.Stats ∷ verbs.Simulate ∷ verbs.Merge ∷ verbs.Convert ∷ [])
 
 -- the kind of networks that a word names
 abbrev pub kind_of : List ℕ → Option Kind
@@ -70,6 +73,20 @@ where_passes passes (Some n) = if passes n then Some n else None
 -- the number of a word, below 2 ^ 32
 unfoldable pub number_of : List ℕ → Option ℕ
 number_of word = where_passes (λ n. nat_lt n (2 ^ 32)) (long_number_of word)
+
+-- the word begins with `!`
+abbrev pub is_complemented : List ℕ → Bool
+is_complemented [] = false
+is_complemented (b ∷ bs) = b == 33
+
+-- the signal of a node's number
+abbrev pub as_signal : Bool → Option ℕ → Option Signal
+as_signal complement None = None
+as_signal complement (Some n) = Some (record { node = record { 0 = n }; complement = complement })
+
+-- the signal of a word: a number, or `!` and a number
+unfoldable pub signal_of : List ℕ → Option Signal
+signal_of word = if is_complemented word then as_signal true (number_of (drop 1 word)) else as_signal false (number_of word)
 
 -- the number of a word, between these two
 unfoldable pub count_of : ℕ → ℕ → List ℕ → Option ℕ

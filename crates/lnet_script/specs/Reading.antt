@@ -1,11 +1,11 @@
 -- Reading the words of a piece as a command.
 use Rattle.std.specs.Prelude.{ℕ, List, [], ◌∷◌, Option, Some, None}
 use Rattle.lnet_script.specs.declared.command.Command.{Command}
-use Rattle.lnet_script.specs.declared.command.Command.TheVariants.{Read, Write, Gen, View, Drop, Ask, Print, Stats, Convert}
+use Rattle.lnet_script.specs.declared.command.Command.TheVariants.{Read, Write, Gen, View, Drop, Ask, Print, Stats, Simulate, Merge, Convert}
 use Rattle.lnet_script.specs.declared.keywords.Verb.{Verb}
 use Rattle.lnet_script.specs.declared.keywords.Verb.TheVariants as verbs
 use Rattle.lnet_script.specs.Given.{◌>>=◌}
-use Rattle.lnet_script.specs.Keywords.{verb_of, kind_of, read_format_of, write_format_of, view_of, query_of, long_number_of, number_of, count_of, name_of}
+use Rattle.lnet_script.specs.Keywords.{verb_of, kind_of, read_format_of, write_format_of, view_of, query_of, long_number_of, number_of, signal_of, count_of, name_of}
 
 -- ---- words one after the other
 
@@ -89,6 +89,19 @@ ask_of words = do
   node ← number_of w.2
   Some (Ask v query node)
 
+unfoldable pub simulate_of : List (List ℕ) → Option Command
+simulate_of words = do
+  w ← one_word words
+  bits ← name_of w
+  Some (Simulate bits)
+
+unfoldable pub merge_of : List (List ℕ) → Option Command
+merge_of words = do
+  w ← two_words words
+  node ← number_of w.0
+  s ← signal_of w.1
+  Some (Merge node s)
+
 unfoldable pub convert_of : List (List ℕ) → Option Command
 convert_of words = do
   w ← one_word words
@@ -110,6 +123,8 @@ behind verbs.Drop words = drop_of words
 behind verbs.Ask words = ask_of words
 behind verbs.Print words = alone_of Print words
 behind verbs.Stats words = alone_of Stats words
+behind verbs.Simulate words = simulate_of words
+behind verbs.Merge words = merge_of words
 behind verbs.Convert words = convert_of words
 
 -- the command that words are

@@ -1,11 +1,12 @@
 -- The words that spell a command.
-use Rattle.std.specs.Prelude.{◌≡◌, ℕ, ◌<◌, ◌≤◌, ◌^◌, List, [], ◌∷◌, codes, IsTrue}
+use Rattle.std.specs.Prelude.{◌≡◌, ℕ, ◌<◌, ◌≤◌, ◌^◌, List, [], ◌∷◌, codes, IsTrue, if◌then◌else◌}
 use Rattle.std.specs.Fmt.{decimal}
+use Rattle.lnet_gates.specs.declared.signal.Signal.{Signal}
 use Rattle.lnet_gates.specs.declared.gate.Kind.{Kind}
 use Rattle.lnet_gates.specs.declared.gate.Kind.TheVariants.{Aig, Xag, Mig, Klut}
 use Rattle.lnet_model.specs.declared.view_spec.ViewSpec.TheVariants as views
 use Rattle.lnet_script.specs.declared.command.Command.{Command}
-use Rattle.lnet_script.specs.declared.command.Command.TheVariants.{Read, Write, Gen, View, Drop, Ask, Print, Stats, Convert}
+use Rattle.lnet_script.specs.declared.command.Command.TheVariants.{Read, Write, Gen, View, Drop, Ask, Print, Stats, Simulate, Merge, Convert}
 use Rattle.lnet_script.specs.declared.command.Query.TheVariants.{Level}
 use Rattle.lnet_script.specs.declared.command.ReadFormat.{ReadFormat}
 use Rattle.lnet_script.specs.declared.command.ReadFormat.TheVariants as reads
@@ -31,6 +32,10 @@ abbrev pub write_word : WriteFormat → List ℕ
 write_word writes.Aag = codes "aag"
 write_word writes.Aig = codes "aig"
 
+-- the word of a signal: its node's number, behind `!` where it is complemented
+abbrev pub signal_word : Signal → List ℕ
+signal_word s = if s.complement then 33 ∷ decimal s.node.0 else decimal s.node.0
+
 -- the number is between these two
 abbrev pub IsBetween : ℕ → ℕ → ℕ → Type 0
 IsBetween least n most = (least ≤ n) × (n ≤ most)
@@ -47,4 +52,6 @@ Spells words (Drop v) = (v < 2 ^ 32) × (words ≡ codes "drop" ∷ decimal v �
 Spells words (Ask v Level node) = (v < 2 ^ 32) × (node < 2 ^ 32) × (words ≡ codes "ask" ∷ decimal v ∷ codes "level" ∷ decimal node ∷ [])
 Spells words Print = words ≡ codes "print" ∷ []
 Spells words Stats = words ≡ codes "stats" ∷ []
+Spells words (Simulate bits) = IsTrue (is_word bits) × (words ≡ codes "simulate" ∷ bits ∷ [])
+Spells words (Merge node by) = (node < 2 ^ 32) × (by.node.0 < 2 ^ 32) × (words ≡ codes "merge" ∷ decimal node ∷ signal_word by ∷ [])
 Spells words (Convert kind) = words ≡ codes "convert" ∷ kind_word kind ∷ []

@@ -1,7 +1,7 @@
 //! The commands of a script.
 
 use lnet_edge::Name;
-use lnet_gates::Kind;
+use lnet_gates::{Kind, Signal};
 use lnet_model::ViewSpec;
 
 /// The formats that are read.
@@ -51,6 +51,11 @@ pub enum Command {
     Print,
     /// `stats`: prints the counts of the network.
     Stats,
+    /// `simulate BITS`: evaluates the outputs where the inputs have these values, a character `0` or `1` for each in order, and `-` for
+    /// none.
+    Simulate(Name),
+    /// `merge NODE SIGNAL`: lets the signal take the gate's place where both compute one function.
+    Merge(u32, Signal),
     /// `convert KIND`: puts the network in place that computes the same in that kind.
     Convert(Kind),
 }

@@ -19,6 +19,8 @@ pub(crate) enum Verb {
     Ask,
     Print,
     Stats,
+    Simulate,
+    Merge,
     Convert,
 }
 
@@ -35,6 +37,8 @@ pub(crate) fn verb_named(word: &[u8]) -> Result<Verb, Refusal>
         b"ask" => Ok(Verb::Ask),
         b"print" => Ok(Verb::Print),
         b"stats" => Ok(Verb::Stats),
+        b"simulate" => Ok(Verb::Simulate),
+        b"merge" => Ok(Verb::Merge),
         b"convert" => Ok(Verb::Convert),
         _ => Err(Refusal::NoCommand),
     }

@@ -3,14 +3,14 @@
 ghost use Rattle.std.specs.Prelude.{◌≡◌, ◌∷◌};
 ghost use Rattle.lnet_script.specs.Given.{Gives};
 ghost use Rattle.lnet_script.specs.Pieces.{words_of};
-ghost use Rattle.lnet_script.specs.Reading.{next_of, no_word, one_word, two_words, three_words, five_words, read_of, write_of, generate_of, attach_of, drop_of, ask_of, convert_of, alone_of, command_of};
+ghost use Rattle.lnet_script.specs.Reading.{next_of, no_word, one_word, two_words, three_words, five_words, read_of, write_of, generate_of, attach_of, drop_of, ask_of, simulate_of, merge_of, convert_of, alone_of, command_of};
 
 use crate::command::Command;
 use crate::keywords::{
     Verb, kind_named, query_named, read_format_named, verb_named, view_named, write_format_named,
 };
 use crate::refusal::Refusal;
-use crate::words::{count, long_number, name, next_word, number};
+use crate::words::{count, long_number, name, next_word, number, signal};
 use std::alloc::Global;
 
 /// The next word, and what stands behind it.
@@ -101,13 +101,7 @@ fn generate(bytes: &[u8]) -> Result<Command, Refusal>
     let inputs = count(inputs, 1, 4096)?;
     let gates = count(gates, 0, 262_144)?;
     let outputs = count(outputs, 1, 4096)?;
-    Ok(Command::Gen(
-        kind,
-        inputs,
-        gates,
-        outputs,
-        long_number(start)?,
-    ))
+    Ok(Command::Gen(kind, inputs, gates, outputs, long_number(start)?))
 }
 
 /// The word behind `view`: which view.
@@ -135,6 +129,24 @@ fn ask(bytes: &[u8]) -> Result<Command, Refusal>
     let view = number(view)?;
     let query = query_named(query)?;
     Ok(Command::Ask(view, query, number(node)?))
+}
+
+/// The word behind `simulate`: the values of inputs.
+#[tactic(auto, unfolding(crate::specs::Reading::simulate_of))]
+fn simulate(alloc: Global, bytes: &[u8]) -> Result<Command, Refusal>
+    ensures { Gives (λ c. c) result (simulate_of (words_of bytes.now)) }
+{
+    Ok(Command::Simulate(name(alloc, one_due(bytes)?)?))
+}
+
+/// The words behind `merge`: a node and a signal.
+#[tactic(auto, unfolding(crate::specs::Reading::merge_of))]
+fn merge(bytes: &[u8]) -> Result<Command, Refusal>
+    ensures { Gives (λ c. c) result (merge_of (words_of bytes.now)) }
+{
+    let (node, by) = two_due(bytes)?;
+    let node = number(node)?;
+    Ok(Command::Merge(node, signal(by)?))
 }
 
 /// The word behind `convert`: a kind.
@@ -167,6 +179,8 @@ pub(crate) fn command(alloc: Global, first: &[u8], rest: &[u8]) -> Result<Comman
         Verb::Ask => ask(rest),
         Verb::Print => alone(Command::Print, rest),
         Verb::Stats => alone(Command::Stats, rest),
+        Verb::Simulate => simulate(alloc, rest),
+        Verb::Merge => merge(rest),
         Verb::Convert => convert(rest),
     }
 }

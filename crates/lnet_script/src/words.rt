@@ -8,10 +8,11 @@ ghost use Rattle.std.specs.Str.{all_ascii_digits};
 ghost use Rattle.std.specs.Str.Parse.{digits_value};
 ghost use Rattle.lnet_script.specs.Given.{Gives};
 ghost use Rattle.lnet_script.specs.Pieces.{is_byte, is_blank, is_word_byte, is_word, parts, parts_behind, left, left_length, words_of};
-ghost use Rattle.lnet_script.specs.Keywords.{is_numeral, long_number_of, number_of, count_of, name_of};
+ghost use Rattle.lnet_script.specs.Keywords.{is_numeral, long_number_of, number_of, signal_of, count_of, name_of};
 
 use crate::refusal::Refusal;
 use lnet_edge::Name;
+use lnet_gates::{Node, Signal};
 use std::alloc::Global;
 use std::str;
 
@@ -118,6 +119,23 @@ pub(crate) fn number(word: &[u8]) -> Result<u32, Refusal>
     match u32::try_from(long_number(word)?) {
         Ok(number) => Ok(number),
         Err(_) => Err(Refusal::NoCommand),
+    }
+}
+
+/// The signal of a word: a number, or `!` and a number.
+#[tactic(auto, unfolding(crate::specs::Keywords::signal_of))]
+pub(crate) fn signal(word: &[u8]) -> Result<Signal, Refusal>
+    ensures { Gives (λ s. s) result (signal_of word.now) }
+{
+    match word {
+        [b'!', digits @ ..] => Ok(Signal {
+            node: Node(number(digits)?),
+            complement: true,
+        }),
+        _ => Ok(Signal {
+            node: Node(number(word)?),
+            complement: false,
+        }),
     }
 }
 

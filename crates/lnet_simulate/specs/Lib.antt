@@ -1,0 +1,4 @@
+pub mod Assignments
+pub mod Cones
+pub mod Lanes
+pub mod Comparing

@@ -1,5 +1,5 @@
 -- Lanes of words: what the operations on words make of each lane.
-use Rattle.std.proofs.Common.{◌≡◌, ◌≢◌, ℕ, zero, suc, ◌+◌, ◌-◌, ◌*◌, ◌^◌, ◌/◌, ◌%◌, ◌<◌, ◌≤◌, ◌⊎◌, Bool, true, false, not, cond, List, [], ◌∷◌, length, map, drop, get_or, refl, sym, ap, subst, ◌∙◌, inl, inr, arith, eqb, ◌==◌, nat_lt, bit_and, bit_or, add-one, drop-cons, lit<}
+use Rattle.std.proofs.Common.{◌≡◌, ◌≢◌, ℕ, suc, ◌+◌, ◌-◌, ◌*◌, ◌^◌, ◌/◌, ◌%◌, ◌<◌, ◌≤◌, ◌⊎◌, Bool, true, false, not, cond, List, [], ◌∷◌, length, map, drop, get_or, refl, sym, ap, subst, ◌∙◌, inl, inr, arith, eqb, ◌==◌, nat_lt, bit_and, bit_or, add-one, drop-cons, lit<}
 use mathlib.Core.Bool.{◌&&◌, ◌||◌}
 use lib.Bits.{bit_xor}
 use Rattle.std.specs.Int.{bit_not, w64}
@@ -8,7 +8,7 @@ use Rattle.std.proofs.lemmas.List.{drop_all}
 use Rattle.std.proofs.lemmas.Nat.Bits.{bit_at_ones, bit_at-zero}
 use Rattle.std.proofs.lemmas.Bool.{eq-eqb, eqb-true, ne_eqb, lt-ltb, le-ltb, cases_lt, and_from, and_left, and_right}
 use Rattle.std.proofs.lemmas.Bool.Decides.{eqb_tells}
-use Rattle.lnet_tables.specs.Bits.{is_set, bit_xor2}
+use Rattle.lnet_tables.specs.Bits.{is_set}
 use Rattle.lnet_tables.proofs.Ops.{set_and, set_not, set_xor}
 use Rattle.lnet_tables.proofs.Swap.{set_or}
 use Rattle.lnet_gates.specs.declared.signal.Signal.{Signal}

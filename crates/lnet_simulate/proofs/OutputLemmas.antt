@@ -1,5 +1,5 @@
 -- The outputs under one assignment, by lane 0 of the words.
-use Rattle.std.proofs.Common.{◌≡◌, ℕ, zero, suc, ◌+◌, ◌*◌, ◌^◌, ◌/◌, ◌<◌, ◌≤◌, Bool, true, false, List, [], ◌∷◌, ◌++◌, length, map, take, get_or, All, Option, None, Some, Result, Ok, Err, IfOk, slice_get, eqb, bit_and, refl, sym, ap, subst, ◌∙◌, inl, inr, arith, take_all, add-one, lit<}
+use Rattle.std.proofs.Common.{◌≡◌, ℕ, zero, suc, ◌+◌, ◌^◌, ◌/◌, ◌<◌, ◌≤◌, Bool, true, false, List, [], ◌∷◌, ◌++◌, length, map, take, get_or, All, None, Some, Result, Ok, Err, IfOk, slice_get, eqb, bit_and, refl, sym, ap, subst, ◌∙◌, inl, inr, arith, take_all, add-one, lit<}
 use mir.Val.{bool_byte}
 use Rattle.std.proofs.lemmas.Bool.{cases_lt}
 use Rattle.std.proofs.lemmas.List.{get_or-map, length-map}

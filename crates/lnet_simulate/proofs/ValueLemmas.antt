@@ -1,5 +1,5 @@
 -- The values of nodes by what stands at them, and the words that have them.
-use Rattle.std.proofs.Common.{◌≡◌, ◌≢◌, ℕ, zero, suc, ◌+◌, ◌*◌, ◌<◌, ◌≤◌, ◌⊎◌, Bool, true, false, List, [], ◌∷◌, length, map, get_or, set, Option, None, Some, is_some, slice_get, refl, sym, ap, subst, ◌∙◌, inl, inr, arith, get_or-set_same, get_or-set_other}
+use Rattle.std.proofs.Common.{◌≡◌, ◌≢◌, ℕ, ◌+◌, ◌<◌, ◌≤◌, Bool, false, List, [], ◌∷◌, length, map, get_or, set, Option, None, Some, is_some, slice_get, refl, sym, ap, subst, ◌∙◌, inl, inr, arith, get_or-set_same, get_or-set_other}
 use Rattle.std.proofs.lemmas.Bool.Decides.{eqb_tells}
 use Rattle.std.proofs.lemmas.Option.{slice_get_within}
 use Rattle.lnet_tables.specs.Bits.{is_set}
@@ -14,7 +14,7 @@ use Rattle.lnet_gates.specs.declared.signal.Node.{Node}
 use Rattle.lnet_model.specs.Values.{value_step, node_value, signal_value}
 use Rattle.lnet_model.proofs.Over.{over-once, along_induction}
 use Rattle.lnet_model.proofs.Values.{gate_value}
-use Rattle.lnet_simulate.specs.Lanes.{lane, lane_of, IsRight, AreSet, AreRead, IsWordOf}
+use Rattle.lnet_simulate.specs.Lanes.{lane, lane_of, IsRight, AreSet, IsWordOf}
 use Rattle.lnet_simulate.proofs.FaninLemmas.{gate-from}
 use Rattle.lnet_simulate.proofs.LaneLemmas.{no-lane}
 

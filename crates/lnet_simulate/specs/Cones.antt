@@ -1,5 +1,5 @@
 -- The search for a cone: the order so far, what is marked, and the path of the search.
-use Rattle.std.specs.Prelude.{◌≡◌, ℕ, ◌<◌, List, [], length, All, AllPairs, Bool, true, false, slice_index_or, Option, None, Some}
+use Rattle.std.specs.Prelude.{◌≡◌, ℕ, ◌<◌, List, length, All, AllPairs, Bool, true, false, slice_index_or, Option, None, Some}
 use Rattle.lnet_gates.specs.declared.signal.Node.{Node}
 use Rattle.lnet_model.specs.Networks.{NetworkValue, entry_at}
 use Rattle.lnet_model.specs.Along.{In, fanin_nodes}

@@ -83,12 +83,5 @@ pub fn equal_exhaustive<G: Gates>(
     let cone = cone_of(alloc, net, &[n, s.node])?;
     let mut inputs = vec![in alloc; 0u64; net.input_count() as usize]?;
     let mut words = vec![in alloc; 0u64; net.numbers() as usize]?;
-    Ok(first_difference(
-        net,
-        &cone,
-        &mut inputs,
-        &mut words,
-        n,
-        s,
-    ))
+    Ok(first_difference(net, &cone, &mut inputs, &mut words, n, s))
 }

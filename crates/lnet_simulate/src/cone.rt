@@ -82,7 +82,7 @@ fn visit_all<G: Gates>(
     Ok(())
 }
 
-/// The nodes that the roots depend on, the roots among them, each once and after its fanins. Linear in the numbers, and in these
+/// The nodes that the roots depend on, the roots among them, each after its fanins. Linear in the numbers, and in these
 /// nodes and their fanins.
 pub(crate) fn cone_of<G: Gates>(
     alloc: Global,

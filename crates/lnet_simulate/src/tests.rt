@@ -110,10 +110,38 @@ fn outputs_follow_the_inputs(rt: HostRuntime) -> Result<(), Fail> {
     output(&mut network, sum)?;
     output(&mut network, carry)?;
     output(&mut network, c.flipped(true))?;
-    assert!(rt; gives(rt.alloc(), &network, &[false, false, false], &[false, false, true])?);
-    assert!(rt; gives(rt.alloc(), &network, &[true, false, false], &[true, false, true])?);
-    assert!(rt; gives(rt.alloc(), &network, &[true, false, true], &[false, true, false])?);
-    assert!(rt; gives(rt.alloc(), &network, &[true, true, true], &[true, true, false])?);
+    assert!(rt;
+        gives(
+            rt.alloc(),
+            &network,
+            &[false, false, false],
+            &[false, false, true]
+        )?
+    );
+    assert!(rt;
+        gives(
+            rt.alloc(),
+            &network,
+            &[true, false, false],
+            &[true, false, true]
+        )?
+    );
+    assert!(rt;
+        gives(
+            rt.alloc(),
+            &network,
+            &[true, false, true],
+            &[false, true, false]
+        )?
+    );
+    assert!(rt;
+        gives(
+            rt.alloc(),
+            &network,
+            &[true, true, true],
+            &[true, true, false]
+        )?
+    );
     Ok(())
 }
 
@@ -125,15 +153,34 @@ fn equal_functions_are_told(rt: HostRuntime) -> Result<(), Fail> {
     // An exclusive or in two forms.
     let both = on(&mut network, Op::And, a, b)?;
     let none = on(&mut network, Op::And, a.flipped(true), b.flipped(true))?;
-    let one = on(&mut network, Op::And, both.flipped(true), none.flipped(true))?;
+    let one = on(
+        &mut network,
+        Op::And,
+        both.flipped(true),
+        none.flipped(true),
+    )?;
     let first = on(&mut network, Op::And, a, b.flipped(true))?;
     let second = on(&mut network, Op::And, a.flipped(true), b)?;
-    let neither = on(&mut network, Op::And, first.flipped(true), second.flipped(true))?;
+    let neither = on(
+        &mut network,
+        Op::And,
+        first.flipped(true),
+        second.flipped(true),
+    )?;
     assert!(rt; one.node != neither.node);
-    assert_eq!(rt; difference(rt.alloc(), &network, one.node, neither.flipped(true))?, None);
-    assert_eq!(rt; difference(rt.alloc(), &network, one.node, neither)?, Some(0));
+    assert_eq!(rt;
+        difference(rt.alloc(), &network, one.node, neither.flipped(true))?,
+        None
+    );
+    assert_eq!(rt;
+        difference(rt.alloc(), &network, one.node, neither)?,
+        Some(0)
+    );
     // They differ where both are true alone.
-    assert_eq!(rt; difference(rt.alloc(), &network, none.node, neither)?, Some(3));
+    assert_eq!(rt;
+        difference(rt.alloc(), &network, none.node, neither)?,
+        Some(3)
+    );
     Ok(())
 }
 
@@ -150,9 +197,18 @@ fn the_least_assignment_is_found(rt: HostRuntime) -> Result<(), Fail> {
     let seventh = input(&mut network)?;
     // True where inputs 5 and 7 are: from 128 + 32 on.
     let high = on(&mut network, Op::Lut(0x80), fifth, seventh)?;
-    assert_eq!(rt; difference(rt.alloc(), &network, high.node, Signal::constant(false))?, Some(160));
-    assert_eq!(rt; difference(rt.alloc(), &network, high.node, seventh)?, Some(128));
-    assert_eq!(rt; difference(rt.alloc(), &network, high.node, sixth)?, Some(64));
+    assert_eq!(rt;
+        difference(rt.alloc(), &network, high.node, Signal::constant(false))?,
+        Some(160)
+    );
+    assert_eq!(rt;
+        difference(rt.alloc(), &network, high.node, seventh)?,
+        Some(128)
+    );
+    assert_eq!(rt;
+        difference(rt.alloc(), &network, high.node, sixth)?,
+        Some(64)
+    );
     assert_eq!(rt; difference(rt.alloc(), &network, high.node, high)?, None);
     Ok(())
 }

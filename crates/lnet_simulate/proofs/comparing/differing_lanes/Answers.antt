@@ -1,4 +1,4 @@
-use Rattle.std.proofs.Common.{◌≡◌, ◌<◌, ◌^◌, ℕ, length, nat_lt, sym, ap, ◌∙◌, arith}
+use Rattle.std.proofs.Common.{◌≡◌, ◌^◌, ℕ, length, nat_lt, ap, ◌∙◌, arith}
 use Rattle.lnet_simulate.proofs.CompareLemmas.{differ-lane}
 use Rattle.lnet_simulate.proofs.comparing.differing_lanes.Goals as goal
 

@@ -1,4 +1,4 @@
-use Rattle.std.proofs.Common.{◌≡◌, ◌<◌, ◌^◌, ℕ, Bool, List, length, sym, subst, lit<}
+use Rattle.std.proofs.Common.{◌<◌, ◌^◌, ℕ, Bool, List, length, sym, subst, lit<}
 use Rattle.lnet_gates.specs.declared.signal.Node.{Node}
 use Rattle.lnet_model.specs.Dags.{numbers_of}
 use Rattle.lnet_model.proofs.Numbers.{live-below-numbers}

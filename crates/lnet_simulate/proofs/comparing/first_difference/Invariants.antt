@@ -1,4 +1,4 @@
-use Rattle.std.proofs.Common.{◌≡◌, ◌<◌, ◌≤◌, ◌*◌, ◌^◌, ℕ, length}
+use Rattle.std.proofs.Common.{◌<◌, ◌≤◌, ◌*◌, ◌^◌, ℕ, length}
 use Rattle.lnet_simulate.specs.Assignments.{AgreeUnder, numbered}
 use Rattle.lnet_simulate.specs.Comparing.{HaveSpace}
 use Rattle.lnet_simulate.proofs.comparing.first_difference.Given as goal

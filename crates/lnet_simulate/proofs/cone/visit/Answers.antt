@@ -1,4 +1,4 @@
-use Rattle.std.proofs.Common.{◌≡◌, ◌<◌, ◌++◌, ◌∷◌, [], List, Bool, true, length, set, sym, ap, subst, ◌∙◌, arith}
+use Rattle.std.proofs.Common.{◌<◌, ◌++◌, ◌∷◌, [], List, true, length, set, sym, ap, subst, ◌∙◌, arith}
 use Rattle.lnet_gates.specs.declared.signal.Node.{Node}
 use Rattle.lnet_simulate.specs.Cones.{IsCone, IsListed, IsPath, StartsAt}
 use Rattle.lnet_simulate.proofs.PathLemmas.{last-unmarked, path-more, path-settled, starts-more, starts-settled, work, work-settled, work-more}

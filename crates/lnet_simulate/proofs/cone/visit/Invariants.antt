@@ -1,4 +1,3 @@
-use Rattle.std.proofs.Common.{◌≡◌, length}
 use Rattle.lnet_simulate.specs.Cones.{IsCone, IsPath, KeepsListed, StartsAt}
 use Rattle.lnet_simulate.proofs.PathLemmas.{work}
 use Rattle.lnet_simulate.proofs.cone.visit.Given as goal

@@ -1,4 +1,4 @@
-use Rattle.std.proofs.Common.{◌≡◌, ◌<◌, ◌^◌, true, sym, ap, ◌∙◌, arith}
+use Rattle.std.proofs.Common.{◌<◌, ◌^◌, sym, ap, ◌∙◌, arith}
 use Rattle.lnet_gates.specs.Gates.{GateValue}
 use Rattle.lnet_simulate.specs.Lanes.{lane_of}
 use Rattle.lnet_simulate.proofs.LaneLemmas.{phase-word}

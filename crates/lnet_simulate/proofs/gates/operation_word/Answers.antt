@@ -1,7 +1,7 @@
-use Rattle.std.proofs.Common.{◌≡◌, false, length, map, sym, ap, subst, ◌∙◌}
+use Rattle.std.proofs.Common.{false, length, map, sym, ap, subst, ◌∙◌}
 use Rattle.lnet_gates.specs.declared.signal.Signal.{Signal}
 use Rattle.lnet_gates.specs.declared.gate.Op.{Op}
-use Rattle.lnet_gates.specs.Gates.{operate, row_of}
+use Rattle.lnet_gates.specs.Gates.{operate}
 use Rattle.lnet_gates.specs.Plans.{Takes}
 use Rattle.lnet_simulate.specs.Lanes.{lane_of}
 use Rattle.lnet_simulate.proofs.LaneLemmas.{and-word, xor-word, maj-word, lut-word}

@@ -1,4 +1,4 @@
-use Rattle.std.proofs.Common.{◌≡◌, ◌<◌, ◌^◌, ℕ, Bool, true, get_or, sym, ap, ◌∙◌, arith}
+use Rattle.std.proofs.Common.{◌<◌, ◌^◌, Bool, get_or, sym, ap, ◌∙◌}
 use Rattle.lnet_tables.specs.Bits.{is_set}
 use Rattle.lnet_tables.proofs.Ops.{set_not}
 use Rattle.lnet_gates.specs.Gates.{flip}

@@ -1,4 +1,4 @@
-use Rattle.std.proofs.Common.{◌≡◌, ◌<◌, ◌≤◌, ◌-◌, ◌^◌, ◌*◌, ◌+◌, ℕ, arith, pow_mono}
+use Rattle.std.proofs.Common.{◌≤◌, ◌-◌, ◌^◌, arith, pow_mono}
 use Rattle.std.proofs.lemmas.Nat.{one_shl}
 use Rattle.lnet_simulate.proofs.BlockLemmas.{blocks}
 use Rattle.lnet_simulate.proofs.inputs.block_count.Goals as goal

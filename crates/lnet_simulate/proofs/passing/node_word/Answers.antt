@@ -1,4 +1,4 @@
-use Rattle.std.proofs.Common.{◌≡◌, ◌<◌, ℕ, length, sym, ap, ◌∙◌, refl, arith, true, false}
+use Rattle.std.proofs.Common.{◌≡◌, sym, ◌∙◌, refl, arith, true, false}
 use Rattle.lnet_simulate.proofs.FaninLemmas.{listed-below}
 use Rattle.lnet_simulate.proofs.ValueLemmas.{word-of-gate, word-of-other}
 use Rattle.lnet_simulate.proofs.passing.node_word.Goals as goal

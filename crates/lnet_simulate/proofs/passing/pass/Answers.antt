@@ -1,4 +1,4 @@
-use Rattle.std.proofs.Common.{◌≡◌, ◌<◌, ℕ, length, get_or, set, ◌∙◌, arith, length-set}
+use Rattle.std.proofs.Common.{◌≡◌, length, get_or, ◌∙◌, length-set}
 use Rattle.lnet_gates.specs.declared.signal.Node.{Node}
 use Rattle.lnet_simulate.proofs.ValueLemmas.{pass-more}
 use Rattle.lnet_simulate.proofs.passing.pass.Goals as goal

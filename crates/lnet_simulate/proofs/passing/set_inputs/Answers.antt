@@ -1,4 +1,4 @@
-use Rattle.std.proofs.Common.{◌≡◌, ◌<◌, ◌≤◌, ◌+◌, ℕ, List, length, get_or, set, slice_get, Some, None, sym, ap, ◌∙◌, arith, length-set}
+use Rattle.std.proofs.Common.{◌<◌, ℕ, List, length, get_or, sym, ap, ◌∙◌, arith, length-set}
 use Rattle.std.proofs.lemmas.Option.{slice_get-get_or}
 use Rattle.lnet_simulate.proofs.ValueLemmas.{input-below, inputs-more, inputs-set}
 use Rattle.lnet_simulate.proofs.passing.set_inputs.Goals as goal

@@ -1,4 +1,4 @@
-use Rattle.std.proofs.Common.{◌≡◌, ◌<◌, ◌+◌, ◌++◌, ◌∷◌, [], ℕ, List, length, refl, sym, ap, subst, ◌∙◌, arith, length-append}
+use Rattle.std.proofs.Common.{◌≡◌, ◌<◌, ◌+◌, ◌∷◌, [], ℕ, List, length, refl, sym, ap, subst, ◌∙◌, arith, length-append}
 use Rattle.lnet_simulate.specs.Assignments.{assignment}
 use Rattle.lnet_simulate.specs.Lanes.{lane}
 use Rattle.lnet_simulate.proofs.OutputLemmas.{lanes-more}
@@ -12,5 +12,5 @@ loop-bit-preserved c =
     record {
       count = ap length now ∙ (omega arith);
       lanes = subst (λ (ws : List ℕ). (k : ℕ) → k < c.loop-bit.bit-index + 1 → lane ws 0 k ≡ assignment c.args.bits.now k) (sym now)
-      (lanes-more c.loop-bit.words.items c.args.bits.now c.loop-bit.bit-index c.from.result (assignment c.args.bits.now c.loop-bit.bit-index) c.loop-bit.invariant.count c.from.ensures refl c.loop-bit.invariant.lanes);
+          (lanes-more c.loop-bit.words.items c.args.bits.now c.loop-bit.bit-index c.from.result (assignment c.args.bits.now c.loop-bit.bit-index) c.loop-bit.invariant.count c.from.ensures refl c.loop-bit.invariant.lanes);
     }

@@ -1,4 +1,4 @@
-use Rattle.std.proofs.Common.{◌≡◌, ◌+◌, ◌<◌, ◌++◌, ◌∷◌, [], Bool, false, length, map, take, vec_items, List, sym, ap, ◌∙◌, arith}
+use Rattle.std.proofs.Common.{◌<◌, ◌++◌, ◌∷◌, [], Bool, false, length, vec_items, List, sym, ap, ◌∙◌, arith}
 use Rattle.std.proofs.lemmas.Option.{slice_get-get_or}
 use Rattle.lnet_gates.specs.declared.signal.Signal.{Signal}
 use Rattle.lnet_simulate.specs.Lanes.{lane_of}

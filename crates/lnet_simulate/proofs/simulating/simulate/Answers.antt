@@ -1,4 +1,4 @@
-use Rattle.std.proofs.Common.{◌≡◌, ◌<◌, ◌∙◌, ℕ, List, All, length, ap, subst, sym, arith}
+use Rattle.std.proofs.Common.{◌∙◌, ℕ, List, All, ap, subst, sym, arith}
 use Rattle.lnet_gates.specs.declared.signal.Node.{Node}
 use Rattle.lnet_gates.specs.declared.signal.Signal.{Signal}
 use Rattle.lnet_simulate.specs.Assignments.{assignment}
@@ -23,7 +23,7 @@ returns g c =
     let sized = c.requires in
     record {
       outputs = if-ok c.simulate_lane.result _ _
-        (λ values is. is ∙ outputs-same N (lane c.deref-3.result.now 0) (assignment c.args.bits.now) c.live_count-live.ensures.stored
-        (λ k low. ap (λ (ws : List ℕ). lane ws 0 k) same ∙ c.in_ok-inputs.ensures.lanes k (omega arith)))
-        c.simulate_lane.ensures;
+          (λ values is. is ∙ outputs-same N (lane c.deref-3.result.now 0) (assignment c.args.bits.now) c.live_count-live.ensures.stored
+          (λ k low. ap (λ (ws : List ℕ). lane ws 0 k) same ∙ c.in_ok-inputs.ensures.lanes k (omega arith)))
+          c.simulate_lane.ensures;
     }

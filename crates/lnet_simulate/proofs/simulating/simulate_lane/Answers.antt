@@ -1,6 +1,4 @@
-use Rattle.std.proofs.Common.{◌≡◌, Bool, List, map, ◌∙◌}
-use Rattle.lnet_model.specs.Values.{network_outputs}
-use Rattle.lnet_simulate.specs.Lanes.{lane, lane_of}
+use Rattle.std.proofs.Common.{◌∙◌}
 use Rattle.lnet_simulate.proofs.OutputLemmas.{if-ok, outputs-lane}
 use Rattle.lnet_simulate.proofs.simulating.simulate_lane.Goals as goal
 

@@ -1,27 +1,14 @@
--- The names of nodes in a written BENCH text. Source: the BENCH format (Brglez, Bryan and Kozminski, "Combinational Profiles of
+-- The names of uses of nodes in a written BENCH text. Source: the BENCH format (Brglez, Bryan and Kozminski, "Combinational Profiles of
 -- Sequential Benchmark Circuits", 1989), with constants as in ABC; the names of ports as they are settled for texts.
-use Rattle.std.specs.Prelude.{ℕ, ◌==◌, ◌&&◌, Bool, List, ◌++◌, map, slice_get, Option, Some, None, unwrap_or, codes, if◌then◌else◌}
+use Rattle.std.specs.Prelude.{ℕ, ◌==◌, ◌&&◌, Bool, List, ◌++◌, map, Option, codes, if◌then◌else◌}
 use Rattle.std.specs.List.{flat_map, list_any}
 use Rattle.lnet_edge.specs.declared.circuit.OutputPort.{OutputPort}
 use Rattle.lnet_edge.specs.declared.circuit.WireRef.{WireRef}
 use Rattle.lnet_edge.specs.Circuits.{CircuitValue, EquationValue}
-use Rattle.lnet_edge.specs.Values.{input_place}
-use Rattle.lnet_naming.specs.Settling.{made_name, input_labels}
+use Rattle.lnet_naming.specs.Settling.{made_name}
+use Rattle.lnet_nodes.specs.Nodes.{node_name}
 
 -- ---- names
-
--- the name at a place, if there is one
-abbrev pub name_at : List (List ℕ) → Option ℕ → Option (List ℕ)
-name_at names None = None
-name_at names (Some place) = slice_get names place
-
--- the name of the input that drives a wire, if one does
-abbrev pub label_of : CircuitValue → ℕ → Option (List ℕ)
-label_of c w = name_at (input_labels c.inputs) (input_place 0 w c.inputs)
-
--- the name of node n: that of its input, or `_n<n>` of a gate
-abbrev pub node_name : (ℕ → Option (List ℕ)) → ℕ → List ℕ
-node_name label n = unwrap_or (label n) (made_name 110 n)
 
 -- the names of false and true
 abbrev pub constant_name : Bool → List ℕ

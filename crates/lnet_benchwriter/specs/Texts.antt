@@ -14,8 +14,10 @@ use Rattle.lnet_edge.specs.Wires.{input_wires}
 use Rattle.lnet_naming.specs.Settling.{made_name, input_labels, output_labels}
 use Rattle.lnet_benchwriter.specs.declared.writing.Form.{Form}
 use Rattle.lnet_benchwriter.specs.declared.writing.Form.TheVariants.{Words, Tables}
-use Rattle.lnet_benchwriter.specs.Nodes.{label_of, node_name, constant_name, use_name, is_turned, uses_of}
-use Rattle.lnet_benchwriter.specs.Tables.{variables, gate_table, digit_count, hex_digits}
+use Rattle.lnet_nodes.specs.Nodes.{label_of, node_name}
+use Rattle.lnet_nodes.specs.Rows.{variables}
+use Rattle.lnet_benchwriter.specs.Nodes.{constant_name, use_name, is_turned, uses_of}
+use Rattle.lnet_benchwriter.specs.Tables.{gate_table, digit_count, hex_digits}
 
 -- ---- lines
 

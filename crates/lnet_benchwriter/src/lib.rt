@@ -2,8 +2,8 @@
 #![tactic(auto)]
 
 mod complements;
-mod labels;
 mod lines;
+mod names;
 mod rows;
 mod tables;
 mod words;

@@ -8,14 +8,16 @@ ghost use Rattle.lnet_edge.specs.CircuitLists.{equation_view, equation_views};
 ghost use Rattle.lnet_edge.specs.Plain.{is_gate_equation};
 ghost use Rattle.lnet_edge.specs.declared.circuit.WireRef.{WireRef};
 ghost use Rattle.lnet_naming.specs.Settling.{made_name};
-ghost use Rattle.lnet_benchwriter.specs.Nodes.{node_name};
-ghost use Rattle.lnet_benchwriter.specs.Kept.{label_in};
-ghost use Rattle.lnet_benchwriter.specs.Tables.{variables, digit_count, hex_digits, gate_table};
+ghost use Rattle.lnet_nodes.specs.Nodes.{node_name};
+ghost use Rattle.lnet_nodes.specs.Kept.{label_in};
+ghost use Rattle.lnet_nodes.specs.Rows.{variables};
+ghost use Rattle.lnet_benchwriter.specs.Tables.{digit_count, hex_digits, gate_table};
 ghost use Rattle.lnet_benchwriter.specs.Texts.{constant_line, gate_line, separated, table_line, output_word, shown_name, table_output, table_word};
 
-use crate::labels::{Labels, constant_name, put_node};
-use crate::rows::{gate_table, variables};
+use crate::names::constant_name;
+use crate::rows::gate_table;
 use lnet_edge::{Equation, WireRef};
+use lnet_nodes::{Labels, put_node, variables};
 use std::alloc::AllocError;
 
 /// One hexadecimal digit of a table: that of the rows from `4 * place` on.

@@ -6,12 +6,14 @@ ghost use Rattle.lnet_edge.specs.Wires.{input_wires};
 ghost use Rattle.lnet_edge.specs.CircuitLists.{equation_view, equation_views};
 ghost use Rattle.lnet_naming.specs.Settling.{made_name};
 ghost use Rattle.lnet_benchwriter.specs.Nodes.{use_name};
-ghost use Rattle.lnet_benchwriter.specs.Kept.{label_in, turned_in};
+ghost use Rattle.lnet_nodes.specs.Kept.{label_in};
+ghost use Rattle.lnet_benchwriter.specs.Kept.{turned_in};
 ghost use Rattle.lnet_benchwriter.specs.Texts.{separated, gate_line, gate_word, complement_line, ascending, input_complements, word_lines, word_output};
 
 use crate::complements::Turned;
-use crate::labels::{Labels, put_node, put_use};
+use crate::names::put_use;
 use lnet_edge::{Equation, InputPort, Rule, WireRef};
+use lnet_nodes::{Labels, put_node};
 use std::alloc::{AllocError, Global};
 use std::collections::BTreeSet;
 

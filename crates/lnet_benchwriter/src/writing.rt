@@ -7,15 +7,16 @@ ghost use Rattle.lnet_edge.specs.Plain.{is_gate_equation, IsPlain};
 ghost use Rattle.lnet_edge.specs.Wires.{HasArities};
 ghost use Rattle.lnet_naming.specs.Settling.{output_labels};
 ghost use Rattle.lnet_benchwriter.specs.Nodes.{is_turned, uses_of};
-ghost use Rattle.lnet_benchwriter.specs.Kept.{label_in, turned_in};
+ghost use Rattle.lnet_nodes.specs.Kept.{label_in};
+ghost use Rattle.lnet_benchwriter.specs.Kept.{turned_in};
 ghost use Rattle.lnet_benchwriter.specs.Texts.{output_line, output_lines, is_table_rule, has_tables, port_line, word_form, table_form, form_text, bench_text};
 
 use crate::complements::turned_in;
-use crate::labels::{Labels, labels_of};
 use crate::lines::put_ports;
 use crate::{tables, words};
 use lnet_edge::{Circuit, Equation, Name, OutputPort, Rule, WireRef};
 use lnet_naming::{Names, settled_names};
+use lnet_nodes::{Labels, labels_of};
 use std::alloc::{AllocError, Global};
 
 /// How gates are written.

@@ -1,9 +1,9 @@
 use Rattle.std.proofs.Common.{ℕ, List, ◌^◌, ◌≤◌, ◌≡◌, length, refl, ap, ◌∙◌, arith}
 use Rattle.lnet_edge.specs.CircuitLists.{equation_view}
 use Rattle.lnet_tables.specs.Bits.{bit_of}
-use Rattle.lnet_benchwriter.specs.Tables.{variables, gate_value}
+use Rattle.lnet_nodes.specs.Rows.{variables, gate_value}
 use Rattle.lnet_benchwriter.proofs.RowTables.{table-step, table-none, byte-bit, few_rows}
-use Rattle.lnet_benchwriter.proofs.GatesAt.{few_variables}
+use Rattle.lnet_nodes.proofs.GatesAt.{few_variables}
 use Rattle.lnet_edge.specs.declared.circuit.WireRef.{WireRef}
 use Rattle.lnet_benchwriter.proofs.rows.gate_table.Goals as goal
 

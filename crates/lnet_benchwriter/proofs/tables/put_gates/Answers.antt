@@ -1,4 +1,4 @@
-use Rattle.lnet_benchwriter.proofs.GatesAt.{gate_at, few_at}
+use Rattle.lnet_nodes.proofs.GatesAt.{gate_at, few_at}
 use Rattle.lnet_benchwriter.proofs.tables.put_gates.Goals as goal
 
 pub put_line-requires-clause-gate : goal.put_line-requires-clause-gate

@@ -1,5 +1,5 @@
 use Rattle.std.proofs.Common.{arith}
-use Rattle.lnet_benchwriter.proofs.GatesAt.{few_variables}
+use Rattle.lnet_nodes.proofs.GatesAt.{few_variables}
 use Rattle.lnet_benchwriter.proofs.tables.put_head.Goals as goal
 
 pub digit_count-requires : goal.digit_count-requires

@@ -1,8 +1,8 @@
 use Rattle.std.proofs.Common.{◌≡◌, ◌++◌, take, string_bytes, map, codes}
 use Rattle.std.specs.List.{flat_map}
 use Rattle.lnet_edge.specs.declared.circuit.WireRef.{WireRef}
-use Rattle.lnet_benchwriter.specs.Nodes.{node_name}
-use Rattle.lnet_benchwriter.specs.Kept.{label_in}
+use Rattle.lnet_nodes.specs.Nodes.{node_name}
+use Rattle.lnet_nodes.specs.Kept.{label_in}
 use Rattle.lnet_benchwriter.proofs.tables.put_others.Given as goal
 
 abbrev pub invariant-loop-operand : goal.invariant-loop-operand

@@ -1,7 +1,8 @@
 use Rattle.std.proofs.Common.{◌≡◌, ◌++◌, take, string_bytes}
 use Rattle.std.specs.List.{flat_map}
 use Rattle.lnet_edge.specs.CircuitLists.{equation_views}
-use Rattle.lnet_benchwriter.specs.Kept.{label_in, turned_in}
+use Rattle.lnet_nodes.specs.Kept.{label_in}
+use Rattle.lnet_benchwriter.specs.Kept.{turned_in}
 use Rattle.lnet_benchwriter.specs.Texts.{word_lines}
 use Rattle.lnet_benchwriter.proofs.words.put_gates.Given as goal
 

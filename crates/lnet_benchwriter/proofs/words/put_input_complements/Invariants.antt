@@ -1,6 +1,6 @@
 use Rattle.std.proofs.Common.{◌≡◌, ◌++◌, string_bytes}
 use Rattle.std.specs.List.{flat_map}
-use Rattle.lnet_benchwriter.specs.Kept.{label_in}
+use Rattle.lnet_nodes.specs.Kept.{label_in}
 use Rattle.lnet_benchwriter.specs.Texts.{complement_line}
 use Rattle.lnet_benchwriter.proofs.words.put_input_complements.Given as goal
 

@@ -2,7 +2,7 @@ use Rattle.std.proofs.Common.{string_bytes}
 use Rattle.std.specs.Iterator.Adapters.{zip_first, zip_second}
 use Rattle.std.specs.Slice.Iter.{iter_rest}
 use Rattle.std.proofs.lemmas.Slice.Zip.{either_empty_from_Zip}
-use Rattle.lnet_benchwriter.specs.Kept.{label_in}
+use Rattle.lnet_nodes.specs.Kept.{label_in}
 use Rattle.lnet_benchwriter.specs.Texts.{output_line}
 use Rattle.lnet_benchwriter.proofs.Pieces.{outputs-end}
 use Rattle.lnet_benchwriter.proofs.writing.put_outputs.Goals as goal

@@ -1,7 +1,7 @@
 use Rattle.std.proofs.Common.{◌≡◌, ◌++◌, string_bytes}
 use Rattle.std.specs.Iterator.Adapters.{zip_first, zip_second}
 use Rattle.std.specs.Slice.Iter.{iter_rest}
-use Rattle.lnet_benchwriter.specs.Kept.{label_in}
+use Rattle.lnet_nodes.specs.Kept.{label_in}
 use Rattle.lnet_benchwriter.specs.Texts.{output_line, output_lines}
 use Rattle.lnet_benchwriter.proofs.writing.put_outputs.Given as goal
 

@@ -6,7 +6,8 @@ use Rattle.lnet_edge.specs.Circuits.{EquationValue}
 use Rattle.lnet_naming.specs.Settling.{output_labels}
 use Rattle.lnet_benchwriter.specs.declared.writing.Form.TheVariants.{Words}
 use Rattle.lnet_benchwriter.specs.Nodes.{is_turned, uses_of}
-use Rattle.lnet_benchwriter.specs.Kept.{label_in, turned_in}
+use Rattle.lnet_nodes.specs.Kept.{label_in}
+use Rattle.lnet_benchwriter.specs.Kept.{turned_in}
 use Rattle.lnet_benchwriter.specs.Texts.{word_form, word_lines, input_complements, output_line, output_lines}
 use Rattle.lnet_benchwriter.proofs.Pieces.{three}
 use Rattle.lnet_benchwriter.proofs.writing.put_words.Goals as goal

@@ -33,5 +33,28 @@ fn lines_of_the_transcript(rt: HostRuntime) -> Result<(), Fail> {
         text_of_reply(rt.alloc(), 3, refused)?.as_str(),
         "unmet 3 Malformed 3 Missing\n"
     );
+    let simulated = Reply::Simulated([false, true, true].to_vec(rt.alloc())?);
+    assert_eq!(rt;
+        text_of_reply(rt.alloc(), 4, simulated)?.as_str(),
+        "outputs 011\n"
+    );
+    let nothing = Reply::Simulated(Vec::new(rt.alloc()));
+    assert_eq!(rt;
+        text_of_reply(rt.alloc(), 5, nothing)?.as_str(),
+        "outputs -\n"
+    );
+    let merged = Reply::Merged { node: 6, gates: 3 };
+    assert_eq!(rt;
+        text_of_reply(rt.alloc(), 6, merged)?.as_str(),
+        "merged 6 gates 3\n"
+    );
+    let unequal = Reply::Unmet(Unmet::Unequal {
+        inputs: 4,
+        assignment: 3,
+    });
+    assert_eq!(rt;
+        text_of_reply(rt.alloc(), 7, unequal)?.as_str(),
+        "unmet 7 Unequal 1100\n"
+    );
     Ok(())
 }

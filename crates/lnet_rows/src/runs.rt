@@ -253,7 +253,7 @@ fn faults(rt: HostRuntime) -> Result<(), Fail> {
     Ok(())
 }
 
-/// A script of one byte too many, a content of one byte too many, and inputs for which there are too few numbers.
+/// A script of one byte too many, and a content of one byte too many.
 #[test]
 fn limits(rt: HostRuntime) -> Result<(), Fail> {
     let alloc = rt.alloc();
@@ -277,6 +277,14 @@ fn limits(rt: HostRuntime) -> Result<(), Fail> {
         status: 1,
     };
     check(&rt, alloc, &too_long, &mut files, Vec::new(alloc))?;
+    Ok(())
+}
+
+/// Inputs for which there are too few numbers.
+#[test]
+fn too_many_inputs(rt: HostRuntime) -> Result<(), Fail> {
+    let alloc = rt.alloc();
+    let mut files = MemoryFiles::new(alloc, Vec::new(alloc));
     files.set("full.aig", b"aig 1048576 1048576 0 0 0\n")?;
     let full = Row {
         words: &["lognet", "read aiger full.aig klut; stats"],

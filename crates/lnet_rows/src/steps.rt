@@ -29,6 +29,7 @@ fn stepped(
     match command {
         Command::View(ViewSpec::Fanout) => Err("no words".into()),
         Command::View(ViewSpec::Cuts(_)) => Err("no words".into()),
+        Command::Gen(..) => Err("counts that are not known".into()),
         _ => Ok(session.step(alloc, command, 1, files, out)),
     }
 }

@@ -27,14 +27,18 @@ mod tests {
         for command in commands {
             text.push_str(match command {
                 Command::Read(ReadFormat::Aiger, _, _) => "r",
+                Command::Read(ReadFormat::Blif, _, _) => "l",
                 Command::Read(ReadFormat::Bench, _, _) => "b",
                 Command::Write(WriteFormat::Aag, _) => "w",
                 Command::Write(WriteFormat::Aig, _) => "W",
+                Command::Gen(_, _, _, _, _) => "g",
                 Command::View(_) => "v",
                 Command::Drop(_) => "d",
                 Command::Ask(_, _, _) => "a",
                 Command::Print => "p",
                 Command::Stats => "s",
+                Command::Simulate(_) => "i",
+                Command::Merge(_, _) => "m",
                 Command::Convert(_) => "c",
             })?;
         }
@@ -54,6 +58,11 @@ mod tests {
             ("view depth;ask 1 level 4\r\n drop\t4294967295 ", "vad"),
             ("print; stats # ; frob\nconvert klut", "psc"),
             ("read bench c.bench xag;write aig c.aig", "bW"),
+            (
+                "read blif c.blif aig; gen klut 4096 0 1 18446744073709551615",
+                "lg",
+            ),
+            ("simulate 01; simulate -; merge 4 !3; merge 4 0", "iimm"),
         ] {
             let commands = parse_script(rt.alloc(), script.as_bytes());
             let Ok(commands) = commands else {
@@ -83,7 +92,12 @@ mod tests {
             ("print; view cuts 7 8", 1),
             ("print\n\u{7f} # not a word", 2),
             ("read aiger caf\u{e9} aig", 1),
-            ("read blif x aig", 1),
+            ("write blif x", 1),
+            ("gen aig 0 1 1 1", 1),
+            ("gen aig 1 262145 1 1", 1),
+            ("gen aig 1 1 1 18446744073709551616", 1),
+            ("merge 4 !", 1),
+            ("merge 4 !03", 1),
         ] {
             match parse_script(rt.alloc(), script.as_bytes()) {
                 Err(error) => assert_eq!(rt; error, ScriptError::BadLine(line), "{script}"),

@@ -49,6 +49,8 @@ spelled-are (command.Drop v) words h = tt
 spelled-are (command.Ask v query n) words h = tt
 spelled-are command.Print words h = tt
 spelled-are command.Stats words h = tt
+spelled-are (command.Simulate bits) words h = tt
+spelled-are (command.Merge n s) words h = tt
 spelled-are (command.Convert kind) words h = tt
 
 pub commands-are : (ps : List Piece) (cs : List Command) → AreSpelled ps cs → All IsCommand cs

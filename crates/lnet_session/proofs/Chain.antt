@@ -59,6 +59,8 @@ met_is (reply.Viewed v asked) e = refl
 met_is (reply.Dropped v) e = refl
 met_is (reply.Level node l) e = refl
 met_is (reply.Printed t) e = refl
+met_is (reply.Simulated values) e = refl
+met_is (reply.Merged node gates) e = refl
 met_is (reply.Stats k i o g d) e = refl
 met_is (reply.Unmet cause) e = absurd cc
 
@@ -69,6 +71,8 @@ unmet_is cause (reply.Viewed v asked) e = absurd cc
 unmet_is cause (reply.Dropped v) e = absurd cc
 unmet_is cause (reply.Level node l) e = absurd cc
 unmet_is cause (reply.Printed t) e = absurd cc
+unmet_is cause (reply.Simulated values) e = absurd cc
+unmet_is cause (reply.Merged node gates) e = absurd cc
 unmet_is cause (reply.Stats k i o g d) e = absurd cc
 unmet_is cause (reply.Unmet d) e = refl
 

@@ -1,9 +1,13 @@
 -- What each command keeps: the network and what its outputs compute, from one state to the next.
-use Rattle.std.proofs.Common.{◌≡◌, ℕ, List, Option, Some, None, IsSome, refl, sym, ap, subst, ◌∙◌}
+use Rattle.std.proofs.Common.{◌≡◌, ℕ, Bool, List, Option, Some, None, IsSome, refl, sym, ap, subst, ◌∙◌}
 use Rattle.lnet_gates.specs.declared.gate.Kind.{Kind}
 use Rattle.lnet_edge.specs.Outside.{Contents}
 use Rattle.lnet_edge.specs.Circuits.{CircuitValue}
+use Rattle.lnet_gates.specs.declared.signal.Signal.{Signal}
 use Rattle.lnet_model.specs.Along.{Acyclic}
+use Rattle.lnet_model.specs.Networks.{NetworkValue}
+use Rattle.lnet_model.specs.Values.{network_outputs}
+use Rattle.lnet_session.specs.Merging.{MergesIn}
 use Rattle.lnet_build.specs.Built.{names_of}
 use Rattle.lnet_export.specs.Exported.{exported}
 use Rattle.lnet_generate.specs.Drawing.{generated}
@@ -16,7 +20,7 @@ use Rattle.lnet_replies.specs.declared.reply.Unmet.TheVariants as unmet
 use Rattle.lnet_replies.specs.declared.reply.Reply.{Reply}
 use Rattle.lnet_replies.specs.declared.reply.Reply.TheVariants as reply
 use Rattle.lnet_session.specs.States.{Held, State}
-use Rattle.lnet_session.specs.Effects.{AgreeOutputs, Converts, Effect, Generates, PutsBack, Reads, Views}
+use Rattle.lnet_session.specs.Effects.{AgreeOutputs, Converts, Effect, Generates, Merges, PutsBack, Reads, Views}
 use Rattle.lnet_session.specs.Steps.{KeepsOutputs, MakesCall, own_call}
 use Rattle.lnet_session.specs.Runs.{FollowsOrigin, latest}
 
@@ -38,6 +42,8 @@ views-keep old spec (reply.Viewed v asked) new h = h.3
 views-keep old spec (reply.Dropped v) new h = absurd h
 views-keep old spec (reply.Level node l) new h = absurd h
 views-keep old spec (reply.Printed t) new h = absurd h
+views-keep old spec (reply.Simulated values) new h = absurd h
+views-keep old spec (reply.Merged node gates) new h = absurd h
 views-keep old spec (reply.Stats k i o g d) new h = absurd h
 views-keep old spec (reply.Unmet unmet.NoNetwork) new h = held-same old new h.1
 views-keep old spec (reply.Unmet (unmet.Malformed line fault)) new h = absurd h
@@ -47,6 +53,10 @@ views-keep old spec (reply.Unmet unmet.NoView) new h = absurd h
 views-keep old spec (reply.Unmet unmet.ShelfEmpty) new h = held-same old new h.2
 views-keep old spec (reply.Unmet unmet.NoNode) new h = absurd h
 views-keep old spec (reply.Unmet unmet.WrongKind) new h = absurd h
+views-keep old spec (reply.Unmet unmet.Cycle) new h = absurd h
+views-keep old spec (reply.Unmet (unmet.Unequal inputs assignment)) new h = absurd h
+views-keep old spec (reply.Unmet unmet.TooWide) new h = absurd h
+views-keep old spec (reply.Unmet unmet.BadBits) new h = absurd h
 
 put_back-keeps : (old : State) (number : ℕ) (answer : Reply) (new : State) → PutsBack old number answer new → new.held ≡ old.held
 put_back-keeps old number (reply.Network k i o g) new h = absurd h
@@ -55,6 +65,8 @@ put_back-keeps old number (reply.Viewed v asked) new h = absurd h
 put_back-keeps old number (reply.Dropped v) new h = h.2
 put_back-keeps old number (reply.Level node l) new h = absurd h
 put_back-keeps old number (reply.Printed t) new h = absurd h
+put_back-keeps old number (reply.Simulated values) new h = absurd h
+put_back-keeps old number (reply.Merged node gates) new h = absurd h
 put_back-keeps old number (reply.Stats k i o g d) new h = absurd h
 put_back-keeps old number (reply.Unmet unmet.NoNetwork) new h = held-same old new h.1
 put_back-keeps old number (reply.Unmet (unmet.Malformed line fault)) new h = absurd h
@@ -64,6 +76,10 @@ put_back-keeps old number (reply.Unmet unmet.NoView) new h = held-same old new h
 put_back-keeps old number (reply.Unmet unmet.ShelfEmpty) new h = absurd h
 put_back-keeps old number (reply.Unmet unmet.NoNode) new h = absurd h
 put_back-keeps old number (reply.Unmet unmet.WrongKind) new h = absurd h
+put_back-keeps old number (reply.Unmet unmet.Cycle) new h = absurd h
+put_back-keeps old number (reply.Unmet (unmet.Unequal inputs assignment)) new h = absurd h
+put_back-keeps old number (reply.Unmet unmet.TooWide) new h = absurd h
+put_back-keeps old number (reply.Unmet unmet.BadBits) new h = absurd h
 
 -- ---- what the outputs compute stays
 
@@ -74,6 +90,8 @@ converts-agree old None kind (reply.Viewed v asked) new is h = absurd h
 converts-agree old None kind (reply.Dropped v) new is h = absurd h
 converts-agree old None kind (reply.Level node l) new is h = absurd h
 converts-agree old None kind (reply.Printed t) new is h = absurd h
+converts-agree old None kind (reply.Simulated values) new is h = absurd h
+converts-agree old None kind (reply.Merged node gates) new is h = absurd h
 converts-agree old None kind (reply.Stats k i o g d) new is h = absurd h
 converts-agree old None kind (reply.Unmet unmet.NoNetwork) new is h = agree-same old.held new.held (held-same old new h)
 converts-agree old None kind (reply.Unmet (unmet.Malformed line fault)) new is h = absurd h
@@ -83,12 +101,18 @@ converts-agree old None kind (reply.Unmet unmet.NoView) new is h = absurd h
 converts-agree old None kind (reply.Unmet unmet.ShelfEmpty) new is h = absurd h
 converts-agree old None kind (reply.Unmet unmet.NoNode) new is h = absurd h
 converts-agree old None kind (reply.Unmet unmet.WrongKind) new is h = absurd h
+converts-agree old None kind (reply.Unmet unmet.Cycle) new is h = absurd h
+converts-agree old None kind (reply.Unmet (unmet.Unequal inputs assignment)) new is h = absurd h
+converts-agree old None kind (reply.Unmet unmet.TooWide) new is h = absurd h
+converts-agree old None kind (reply.Unmet unmet.BadBits) new is h = absurd h
 converts-agree old (Some k) kind (reply.Network k2 i o g) new is h = h.1
 converts-agree old (Some k) kind (reply.Wrote n) new is h = absurd h
 converts-agree old (Some k) kind (reply.Viewed v asked) new is h = absurd h
 converts-agree old (Some k) kind (reply.Dropped v) new is h = absurd h
 converts-agree old (Some k) kind (reply.Level node l) new is h = absurd h
 converts-agree old (Some k) kind (reply.Printed t) new is h = absurd h
+converts-agree old (Some k) kind (reply.Simulated values) new is h = absurd h
+converts-agree old (Some k) kind (reply.Merged node gates) new is h = absurd h
 converts-agree old (Some k) kind (reply.Stats k2 i o g d) new is h = absurd h
 converts-agree old (Some k) kind (reply.Unmet unmet.NoNetwork) new is h = absurd h
 converts-agree old (Some k) kind (reply.Unmet (unmet.Malformed line fault)) new is h = absurd h
@@ -98,6 +122,39 @@ converts-agree old (Some k) kind (reply.Unmet unmet.NoView) new is h = absurd h
 converts-agree old (Some k) kind (reply.Unmet unmet.ShelfEmpty) new is h = absurd h
 converts-agree old (Some k) kind (reply.Unmet unmet.NoNode) new is h = absurd h
 converts-agree old (Some k) kind (reply.Unmet unmet.WrongKind) new is h = absurd h
+converts-agree old (Some k) kind (reply.Unmet unmet.Cycle) new is h = absurd h
+converts-agree old (Some k) kind (reply.Unmet (unmet.Unequal inputs assignment)) new is h = absurd h
+converts-agree old (Some k) kind (reply.Unmet unmet.TooWide) new is h = absurd h
+converts-agree old (Some k) kind (reply.Unmet unmet.BadBits) new is h = absurd h
+
+merged-outputs : (N : NetworkValue) (n : ℕ) (s : Signal) (answer : Reply) (Q : NetworkValue) → MergesIn N n s answer Q → (a : ℕ → Bool) → network_outputs Q a ≡ network_outputs N a
+merged-outputs N n s (reply.Network k i o g) Q h = absurd h
+merged-outputs N n s (reply.Wrote b) Q h = absurd h
+merged-outputs N n s (reply.Viewed v asked) Q h = absurd h
+merged-outputs N n s (reply.Dropped v) Q h = absurd h
+merged-outputs N n s (reply.Level node l) Q h = absurd h
+merged-outputs N n s (reply.Printed t) Q h = absurd h
+merged-outputs N n s (reply.Simulated values) Q h = absurd h
+merged-outputs N n s (reply.Merged node gates) Q h = h.1.outputs
+merged-outputs N n s (reply.Stats k i o g d) Q h = absurd h
+merged-outputs N n s (reply.Unmet cause) Q h = λ a. ap (λ M. network_outputs M a) h.1
+
+merged-acyclic : (N : NetworkValue) (n : ℕ) (s : Signal) (answer : Reply) (Q : NetworkValue) → Acyclic N → MergesIn N n s answer Q → Acyclic Q
+merged-acyclic N n s (reply.Network k i o g) Q acyclic h = absurd h
+merged-acyclic N n s (reply.Wrote b) Q acyclic h = absurd h
+merged-acyclic N n s (reply.Viewed v asked) Q acyclic h = absurd h
+merged-acyclic N n s (reply.Dropped v) Q acyclic h = absurd h
+merged-acyclic N n s (reply.Level node l) Q acyclic h = absurd h
+merged-acyclic N n s (reply.Printed t) Q acyclic h = absurd h
+merged-acyclic N n s (reply.Simulated values) Q acyclic h = absurd h
+merged-acyclic N n s (reply.Merged node gates) Q acyclic h = h.1.acyclic
+merged-acyclic N n s (reply.Stats k i o g d) Q acyclic h = absurd h
+merged-acyclic N n s (reply.Unmet cause) Q acyclic h = subst Acyclic (sym h.1) acyclic
+
+merges-agree : (old : State) (held : Option Held) (n : ℕ) (s : Signal) (answer : Reply) (new : State) → held ≡ old.held → Merges old held n s answer new → AgreeOutputs old.held new.held
+merges-agree old None n s answer new is h = agree-same old.held new.held (held-same old new h.1)
+merges-agree old (Some k) n s answer new is h =
+    subst (λ (o : Option Held). AgreeOutputs o new.held) is (subst (λ (o : Option Held). AgreeOutputs (Some k) o) (sym h.2) (merged-outputs k.network n s answer h.0 h.1))
 
 pub effect-keeps : (c : Command) (old new : State) (before after : Option Contents) (answer : Reply) (source : Option CircuitValue) → Effect old before c answer source new after → KeepsOutputs c old new
 effect-keeps (command.Read format name kind) old new before after answer source e = tt
@@ -108,6 +165,8 @@ effect-keeps (command.Drop number) old new before after answer source e = agree-
 effect-keeps (command.Ask number Level n) old new before after answer source e = agree-same old.held new.held (held-same old new e.1)
 effect-keeps command.Print old new before after answer source e = agree-same old.held new.held (held-same old new e.1)
 effect-keeps command.Stats old new before after answer source e = agree-same old.held new.held (held-same old new e.1)
+effect-keeps (command.Simulate bits) old new before after answer source e = agree-same old.held new.held (held-same old new e.1)
+effect-keeps (command.Merge n s) old new before after answer source e = merges-agree old old.held n s answer new refl e.0
 effect-keeps (command.Convert kind) old new before after answer source e = converts-agree old old.held kind answer new refl e.0
 
 pub same-keeps : (c : Command) (old new : State) → new ≡ old → KeepsOutputs c old new
@@ -119,6 +178,8 @@ same-keeps (command.Drop number) old new same = agree-same old.held new.held (he
 same-keeps (command.Ask number query n) old new same = agree-same old.held new.held (held-same old new same)
 same-keeps command.Print old new same = agree-same old.held new.held (held-same old new same)
 same-keeps command.Stats old new same = agree-same old.held new.held (held-same old new same)
+same-keeps (command.Simulate bits) old new same = agree-same old.held new.held (held-same old new same)
+same-keeps (command.Merge n s) old new same = agree-same old.held new.held (held-same old new same)
 same-keeps (command.Convert kind) old new same = agree-same old.held new.held (held-same old new same)
 
 -- ---- the origin
@@ -141,6 +202,8 @@ converts-follow old None kind (reply.Viewed v asked) new source origin f none h 
 converts-follow old None kind (reply.Dropped v) new source origin f none h = absurd h
 converts-follow old None kind (reply.Level node l) new source origin f none h = absurd h
 converts-follow old None kind (reply.Printed t) new source origin f none h = absurd h
+converts-follow old None kind (reply.Simulated values) new source origin f none h = absurd h
+converts-follow old None kind (reply.Merged node gates) new source origin f none h = absurd h
 converts-follow old None kind (reply.Stats k i o g d) new source origin f none h = absurd h
 converts-follow old None kind (reply.Unmet unmet.NoNetwork) new source origin f none h = follows-same old.held new.held source origin f none (held-same old new h)
 converts-follow old None kind (reply.Unmet (unmet.Malformed line fault)) new source origin f none h = absurd h
@@ -150,12 +213,18 @@ converts-follow old None kind (reply.Unmet unmet.NoView) new source origin f non
 converts-follow old None kind (reply.Unmet unmet.ShelfEmpty) new source origin f none h = absurd h
 converts-follow old None kind (reply.Unmet unmet.NoNode) new source origin f none h = absurd h
 converts-follow old None kind (reply.Unmet unmet.WrongKind) new source origin f none h = absurd h
+converts-follow old None kind (reply.Unmet unmet.Cycle) new source origin f none h = absurd h
+converts-follow old None kind (reply.Unmet (unmet.Unequal inputs assignment)) new source origin f none h = absurd h
+converts-follow old None kind (reply.Unmet unmet.TooWide) new source origin f none h = absurd h
+converts-follow old None kind (reply.Unmet unmet.BadBits) new source origin f none h = absurd h
 converts-follow old (Some held) kind (reply.Network k2 i o g) new source origin f none h = with-latest new.held source origin none (subst (λ (t : Option Held). FollowsOrigin t origin) (sym h.0.held) (follows-agree old.held (record { network = h.0.network; names = names_of (exported held.network held.names) }) origin f (subst (AgreeOutputs old.held) h.0.held h.1) h.0.made.acyclic))
 converts-follow old (Some held) kind (reply.Wrote n) new source origin f none h = absurd h
 converts-follow old (Some held) kind (reply.Viewed v asked) new source origin f none h = absurd h
 converts-follow old (Some held) kind (reply.Dropped v) new source origin f none h = absurd h
 converts-follow old (Some held) kind (reply.Level node l) new source origin f none h = absurd h
 converts-follow old (Some held) kind (reply.Printed t) new source origin f none h = absurd h
+converts-follow old (Some held) kind (reply.Simulated values) new source origin f none h = absurd h
+converts-follow old (Some held) kind (reply.Merged node gates) new source origin f none h = absurd h
 converts-follow old (Some held) kind (reply.Stats k2 i o g d) new source origin f none h = absurd h
 converts-follow old (Some held) kind (reply.Unmet unmet.NoNetwork) new source origin f none h = absurd h
 converts-follow old (Some held) kind (reply.Unmet (unmet.Malformed line fault)) new source origin f none h = absurd h
@@ -165,6 +234,16 @@ converts-follow old (Some held) kind (reply.Unmet unmet.NoView) new source origi
 converts-follow old (Some held) kind (reply.Unmet unmet.ShelfEmpty) new source origin f none h = absurd h
 converts-follow old (Some held) kind (reply.Unmet unmet.NoNode) new source origin f none h = absurd h
 converts-follow old (Some held) kind (reply.Unmet unmet.WrongKind) new source origin f none h = absurd h
+converts-follow old (Some held) kind (reply.Unmet unmet.Cycle) new source origin f none h = absurd h
+converts-follow old (Some held) kind (reply.Unmet (unmet.Unequal inputs assignment)) new source origin f none h = absurd h
+converts-follow old (Some held) kind (reply.Unmet unmet.TooWide) new source origin f none h = absurd h
+converts-follow old (Some held) kind (reply.Unmet unmet.BadBits) new source origin f none h = absurd h
+
+merges-follow : (old : State) (held : Option Held) (n : ℕ) (s : Signal) (answer : Reply) (new : State) (source origin : Option CircuitValue) → FollowsOrigin held origin → source ≡ None → held ≡ old.held → Merges old held n s answer new → FollowsOrigin new.held (latest source origin)
+merges-follow old None n s answer new source origin f none is h = follows-same None new.held source origin f none (held-same old new h.1 ∙ sym is)
+merges-follow old (Some k) n s answer new source origin f none is h =
+    let follows = follows-agree (Some k) (record { network = h.0; names = k.names }) origin f (merged-outputs k.network n s answer h.0 h.1) (merged-acyclic k.network n s answer h.0 f.2 h.1) in
+    with-latest new.held source origin none (subst (λ (t : Option Held). FollowsOrigin t origin) (sym h.2) follows)
 
 reads-follow : (old : State) (format : ReadFormat) (kind : Kind) (bytes : List ℕ) (answer : Reply) (source : Option CircuitValue) (new : State) (origin : Option CircuitValue) → FollowsOrigin old.held origin → Reads old format kind bytes answer source new → FollowsOrigin new.held (latest source origin)
 reads-follow old format kind bytes (reply.Network k2 i o g) source new origin f h = (let p = h.1.3 in subst (λ (s : Option CircuitValue). FollowsOrigin new.held (latest s origin)) (sym h.1.1) (subst (λ (t : Option Held). FollowsOrigin t (Some h.1.0)) (sym p.held) (h.1.0, refl, p.made.acyclic, p.made.values)))
@@ -173,6 +252,8 @@ reads-follow old format kind bytes (reply.Viewed v asked) source new origin f h 
 reads-follow old format kind bytes (reply.Dropped v) source new origin f h = absurd h
 reads-follow old format kind bytes (reply.Level node l) source new origin f h = absurd h
 reads-follow old format kind bytes (reply.Printed t) source new origin f h = absurd h
+reads-follow old format kind bytes (reply.Simulated values) source new origin f h = absurd h
+reads-follow old format kind bytes (reply.Merged node gates) source new origin f h = absurd h
 reads-follow old format kind bytes (reply.Stats k2 i o g d) source new origin f h = absurd h
 reads-follow old format kind bytes (reply.Unmet unmet.NoNetwork) source new origin f h = absurd h
 reads-follow old format kind bytes (reply.Unmet (unmet.Malformed line fault)) source new origin f h = follows-same old.held new.held source origin f h.0 (held-same old new h.3)
@@ -182,6 +263,10 @@ reads-follow old format kind bytes (reply.Unmet unmet.NoView) source new origin 
 reads-follow old format kind bytes (reply.Unmet unmet.ShelfEmpty) source new origin f h = absurd h
 reads-follow old format kind bytes (reply.Unmet unmet.NoNode) source new origin f h = absurd h
 reads-follow old format kind bytes (reply.Unmet unmet.WrongKind) source new origin f h = absurd h
+reads-follow old format kind bytes (reply.Unmet unmet.Cycle) source new origin f h = absurd h
+reads-follow old format kind bytes (reply.Unmet (unmet.Unequal inputs assignment)) source new origin f h = absurd h
+reads-follow old format kind bytes (reply.Unmet unmet.TooWide) source new origin f h = absurd h
+reads-follow old format kind bytes (reply.Unmet unmet.BadBits) source new origin f h = absurd h
 
 generates-follow : (old : State) (kind : Kind) (c : CircuitValue) (answer : Reply) (source : Option CircuitValue) (new : State) (origin : Option CircuitValue) → FollowsOrigin old.held origin → Generates old kind c answer source new → FollowsOrigin new.held (latest source origin)
 generates-follow old kind c (reply.Network k2 i o g) source new origin f h = (let p = h.0 in subst (λ (s : Option CircuitValue). FollowsOrigin new.held (latest s origin)) (sym h.1) (subst (λ (t : Option Held). FollowsOrigin t (Some c)) (sym p.held) (c, refl, p.made.acyclic, p.made.values)))
@@ -190,6 +275,8 @@ generates-follow old kind c (reply.Viewed v asked) source new origin f h = absur
 generates-follow old kind c (reply.Dropped v) source new origin f h = absurd h.0
 generates-follow old kind c (reply.Level node l) source new origin f h = absurd h.0
 generates-follow old kind c (reply.Printed t) source new origin f h = absurd h.0
+generates-follow old kind c (reply.Simulated values) source new origin f h = absurd h.0
+generates-follow old kind c (reply.Merged node gates) source new origin f h = absurd h.0
 generates-follow old kind c (reply.Stats k2 i o g d) source new origin f h = absurd h.0
 generates-follow old kind c (reply.Unmet unmet.NoNetwork) source new origin f h = absurd h.0
 generates-follow old kind c (reply.Unmet (unmet.Malformed line fault)) source new origin f h = absurd h.0
@@ -199,6 +286,10 @@ generates-follow old kind c (reply.Unmet unmet.NoView) source new origin f h = a
 generates-follow old kind c (reply.Unmet unmet.ShelfEmpty) source new origin f h = absurd h.0
 generates-follow old kind c (reply.Unmet unmet.NoNode) source new origin f h = absurd h.0
 generates-follow old kind c (reply.Unmet unmet.WrongKind) source new origin f h = absurd h.0
+generates-follow old kind c (reply.Unmet unmet.Cycle) source new origin f h = absurd h.0
+generates-follow old kind c (reply.Unmet (unmet.Unequal inputs assignment)) source new origin f h = absurd h.0
+generates-follow old kind c (reply.Unmet unmet.TooWide) source new origin f h = absurd h.0
+generates-follow old kind c (reply.Unmet unmet.BadBits) source new origin f h = absurd h.0
 
 pub effect-follows : (c : Command) (old new : State) (before after : Option Contents) (answer : Reply) (source origin : Option CircuitValue) → FollowsOrigin old.held origin → Effect old before c answer source new after → FollowsOrigin new.held (latest source origin)
 effect-follows (command.Read format name kind) old new before after answer source origin f e = reads-follow old format kind e.0.0 answer source new origin f e.0.2
@@ -209,6 +300,8 @@ effect-follows (command.Drop number) old new before after answer source origin f
 effect-follows (command.Ask number Level n) old new before after answer source origin f e = follows-same old.held new.held source origin f e.3 (held-same old new e.1)
 effect-follows command.Print old new before after answer source origin f e = follows-same old.held new.held source origin f e.3 (held-same old new e.1)
 effect-follows command.Stats old new before after answer source origin f e = follows-same old.held new.held source origin f e.3 (held-same old new e.1)
+effect-follows (command.Simulate bits) old new before after answer source origin f e = follows-same old.held new.held source origin f e.3 (held-same old new e.1)
+effect-follows (command.Merge n s) old new before after answer source origin f e = merges-follow old old.held n s answer new source origin f e.2 refl e.0
 effect-follows (command.Convert kind) old new before after answer source origin f e = converts-follow old old.held kind answer new source origin f e.2 e.0
 
 -- ---- the own call of a command
@@ -222,4 +315,6 @@ call-some (command.Drop number) state h = absurd h
 call-some (command.Ask number query n) state h = absurd h
 call-some command.Print state h = absurd h
 call-some command.Stats state h = absurd h
+call-some (command.Simulate bits) state h = absurd h
+call-some (command.Merge n s) state h = absurd h
 call-some (command.Convert kind) state h = absurd h

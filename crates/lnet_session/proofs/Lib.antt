@@ -1,3 +1,4 @@
+pub mod Merged
 pub mod Long
 pub mod Put
 pub mod Chain

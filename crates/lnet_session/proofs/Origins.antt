@@ -77,7 +77,11 @@ met-wrote format (Some h) before after name (reply.Dropped v) origin m f w met i
 met-wrote format None before after name (reply.Level node l) origin m f w met is = absurd w
 met-wrote format (Some h) before after name (reply.Level node l) origin m f w met is = absurd w
 met-wrote format None before after name (reply.Printed t) origin m f w met is = absurd w
+met-wrote format None before after name (reply.Simulated values) origin m f w met is = absurd w
+met-wrote format None before after name (reply.Merged node gates) origin m f w met is = absurd w
 met-wrote format (Some h) before after name (reply.Printed t) origin m f w met is = absurd w
+met-wrote format (Some h) before after name (reply.Simulated values) origin m f w met is = absurd w
+met-wrote format (Some h) before after name (reply.Merged node gates) origin m f w met is = absurd w
 met-wrote format None before after name (reply.Stats k i o g d) origin m f w met is = absurd w
 met-wrote format (Some h) before after name (reply.Stats k i o g d) origin m f w met is = absurd w
 

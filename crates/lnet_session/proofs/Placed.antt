@@ -46,6 +46,8 @@ module _ (old new : State) (kind : Kind) (c : CircuitValue) (N : NetworkValue) (
   placed (reply.Dropped v) says = absurd says
   placed (reply.Level node l) says = absurd says
   placed (reply.Printed t) says = absurd says
+  placed (reply.Simulated values) says = absurd says
+  placed (reply.Merged node gates) says = absurd says
   placed (reply.Stats k i o g d) says = absurd says
   placed (reply.Unmet cause) says = absurd says
 
@@ -62,6 +64,8 @@ reads-one old new format kind bytes c short means (reply.Viewed v asked) p = abs
 reads-one old new format kind bytes c short means (reply.Dropped v) p = absurd p
 reads-one old new format kind bytes c short means (reply.Level node l) p = absurd p
 reads-one old new format kind bytes c short means (reply.Printed t) p = absurd p
+reads-one old new format kind bytes c short means (reply.Simulated values) p = absurd p
+reads-one old new format kind bytes c short means (reply.Merged node gates) p = absurd p
 reads-one old new format kind bytes c short means (reply.Stats k i o g d) p = absurd p
 reads-one old new format kind bytes c short means (reply.Unmet unmet.NoNetwork) p = absurd p
 reads-one old new format kind bytes c short means (reply.Unmet (unmet.Malformed line fault)) p = absurd p
@@ -71,6 +75,10 @@ reads-one old new format kind bytes c short means (reply.Unmet unmet.NoView) p =
 reads-one old new format kind bytes c short means (reply.Unmet unmet.ShelfEmpty) p = absurd p
 reads-one old new format kind bytes c short means (reply.Unmet unmet.NoNode) p = absurd p
 reads-one old new format kind bytes c short means (reply.Unmet unmet.WrongKind) p = absurd p
+reads-one old new format kind bytes c short means (reply.Unmet unmet.Cycle) p = absurd p
+reads-one old new format kind bytes c short means (reply.Unmet (unmet.Unequal inputs assignment)) p = absurd p
+reads-one old new format kind bytes c short means (reply.Unmet unmet.TooWide) p = absurd p
+reads-one old new format kind bytes c short means (reply.Unmet unmet.BadBits) p = absurd p
 
 pub reads : (r : Result Reply Stop) (old new : State) (format : ReadFormat) (kind : Kind) (bytes : List ℕ) (c : CircuitValue) → length bytes ≤ file_limit → MeansIn format bytes c → IfOk r (λ answer. Places old kind c answer new) → IfOk r (λ answer. (source : Option CircuitValue) × Reads old format kind bytes answer source new)
 reads (Err e) old new format kind bytes c short means p = tt
@@ -95,6 +103,8 @@ module _ (old new : State) (h : Held) (kind : Kind) (c : CircuitValue) (held : o
   converts-one (reply.Dropped v) p = absurd p
   converts-one (reply.Level node l) p = absurd p
   converts-one (reply.Printed t) p = absurd p
+  converts-one (reply.Simulated values) p = absurd p
+  converts-one (reply.Merged node gates) p = absurd p
   converts-one (reply.Stats k i o g d) p = absurd p
   converts-one (reply.Unmet unmet.NoNetwork) p = absurd p
   converts-one (reply.Unmet (unmet.Malformed line fault)) p = absurd p
@@ -104,6 +114,10 @@ module _ (old new : State) (h : Held) (kind : Kind) (c : CircuitValue) (held : o
   converts-one (reply.Unmet unmet.ShelfEmpty) p = absurd p
   converts-one (reply.Unmet unmet.NoNode) p = absurd p
   converts-one (reply.Unmet unmet.WrongKind) p = absurd p
+  converts-one (reply.Unmet unmet.Cycle) p = absurd p
+  converts-one (reply.Unmet (unmet.Unequal inputs assignment)) p = absurd p
+  converts-one (reply.Unmet unmet.TooWide) p = absurd p
+  converts-one (reply.Unmet unmet.BadBits) p = absurd p
 
 pub converts : (r : Result Reply Stop) (old new : State) (h : Held) (kind : Kind) (c : CircuitValue) → old.held ≡ Some h → c ≡ exported h.network h.names → ((a : ℕ → Bool) → circuit_outputs c a ≡ network_outputs h.network a) → IfOk r (λ answer. Places old kind c answer new) → IfOk r (λ answer. Converts old old.held kind answer new)
 converts (Err e) old new h kind c held is outputs p = tt

@@ -1,6 +1,7 @@
 -- What a command does to the state and to the files, and what it answers.
 use Rattle.std.specs.Prelude.{◌≡◌, ◌≢◌, ℕ, ◌≤◌, ◌<◌, Bool, List, length, Option, Some, None, IsSome, string_bytes}
 use Rattle.std.specs.FinMap.{get, insert}
+use Rattle.lnet_gates.specs.declared.signal.Signal.{Signal}
 use Rattle.lnet_gates.specs.declared.gate.Kind.{Kind}
 use Rattle.lnet_gates.specs.declared.gate.Kind.TheVariants.{Aig}
 use Rattle.lnet_model.specs.Networks.{NetworkValue, IsLive, gate_count}
@@ -29,7 +30,10 @@ use Rattle.lnet_replies.specs.declared.reply.Reply.{Reply}
 use Rattle.lnet_replies.specs.declared.reply.Reply.TheVariants as reply
 use Rattle.lnet_subscriptions.specs.Rolls.{Attaches, Drops, all_shelved, place_among, place_of, spec_under}
 use Rattle.lnet_session.specs.States.{Held, State}
+use Rattle.lnet_replies.specs.Texts.{bits_word}
+use Rattle.lnet_simulate.specs.Assignments.{assignment}
 use Rattle.lnet_session.specs.Made.{IsMadeOf}
+use Rattle.lnet_session.specs.Merging.{MergesIn}
 use Rattle.lnet_session.specs.Formats.{IsMalformed, MeansIn, reader_of, text_in}
 
 -- where the contents are told, the name holds these bytes
@@ -152,6 +156,18 @@ Converts old (Some h) kind (reply.Network k inputs outputs gates) new = PutsInPl
 Converts old (Some h) kind (reply.Unmet unmet.Full) new = IsFull kind (exported h.network h.names) old new
 Converts old _ kind _ new = ⊥
 
+-- the values of the outputs, where the word has one `0` or `1` for each input
+abbrev pub Simulates : Option Held → List ℕ → Reply → Type 0
+Simulates None word (reply.Unmet unmet.NoNetwork) = Unit {0}
+Simulates (Some h) word (reply.Unmet unmet.BadBits) = (bits : List Bool) → word ≡ bits_word bits → length bits ≡ length h.network.inputs → ⊥
+Simulates (Some h) word (reply.Simulated values) = (bits : List Bool) × (word ≡ bits_word bits) × (length bits ≡ length h.network.inputs) × (values.items ≡ network_outputs h.network (assignment bits))
+Simulates _ word _ = ⊥
+
+-- letting a signal take a gate's place in the network that is in place
+abbrev pub Merges : State → Option Held → ℕ → Signal → Reply → State → Type 0
+Merges old None n s answer new = (answer ≡ reply.Unmet unmet.NoNetwork) × (new ≡ old)
+Merges old (Some h) n s answer new = (Q : NetworkValue) × MergesIn h.network n s answer Q × (new.held ≡ Some (record { network = Q; names = h.names })) × (new.roll ≡ old.roll)
+
 -- What a command may do and answer; its source is the circuit that it puts in force, where it puts one.
 abbrev pub Effect : State → Option Contents → Command → Reply → Option CircuitValue → State → Option Contents → Type 0
 Effect old before (command.Read format name kind) answer source new after = ((bytes : List ℕ) × Holds before name bytes × Reads old format kind bytes answer source new) × (after ≡ before)
@@ -162,4 +178,6 @@ Effect old before (command.Drop number) answer source new after = PutsBack old n
 Effect old before (command.Ask number Level n) answer source new after = AsksLevel old.held old.roll.live number n answer × (new ≡ old) × (after ≡ before) × (source ≡ None)
 Effect old before command.Print answer source new after = Prints old.held answer × (new ≡ old) × (after ≡ before) × (source ≡ None)
 Effect old before command.Stats answer source new after = Counts old.held answer × (new ≡ old) × (after ≡ before) × (source ≡ None)
+Effect old before (command.Simulate bits) answer source new after = Simulates old.held bits answer × (new ≡ old) × (after ≡ before) × (source ≡ None)
+Effect old before (command.Merge n s) answer source new after = Merges old old.held n s answer new × (after ≡ before) × (source ≡ None)
 Effect old before (command.Convert kind) answer source new after = Converts old old.held kind answer new × (after ≡ before) × (source ≡ None)

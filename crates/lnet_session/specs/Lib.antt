@@ -2,6 +2,7 @@ pub mod States
 pub mod Made
 pub mod Formats
 pub mod Sessions
+pub mod Merging
 pub mod Effects
 pub mod Steps
 pub mod Runs

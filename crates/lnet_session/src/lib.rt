@@ -4,6 +4,7 @@
 mod asking;
 mod circuits;
 mod laws;
+mod merging;
 mod placing;
 mod running;
 mod session;

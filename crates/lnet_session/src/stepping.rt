@@ -61,6 +61,8 @@ impl Session {
             Command::Ask(number, _, node) => Ok(self.ask_level(*number, Node(*node))),
             Command::Print => self.print(alloc),
             Command::Stats => self.stats(),
+            Command::Simulate(bits) => self.simulate(alloc, bits),
+            Command::Merge(n, s) => self.merge(alloc, Node(*n), *s),
             Command::Convert(kind) => self.convert(alloc, *kind),
         }
     }

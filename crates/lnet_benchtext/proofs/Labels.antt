@@ -1,0 +1,106 @@
+-- The names in a written text are names.
+use Rattle.std.proofs.Common.{◌≡◌, ℕ, zero, suc, ◌+◌, Bool, true, false, cond, eqb, List, [], ◌∷◌, length, map, Option, Some, None, refl, arith}
+use Rattle.std.specs.Prelude.{not, ◌&&◌, nat_lt, slice_get, slice_index, unwrap_or, ◌==◌}
+use Rattle.std.specs.List.{list_all, AllByRecursion}
+use Rattle.std.specs.Option.{IfSome}
+use Rattle.std.proofs.lemmas.Bool.Decides.{nat_tests}
+use Rattle.lnet_edge.specs.declared.circuit.InputPort.{InputPort}
+use Rattle.lnet_edge.specs.declared.circuit.OutputPort.{OutputPort}
+use Rattle.lnet_edge.specs.declared.circuit.WireRef.{WireRef}
+use Rattle.lnet_edge.specs.Circuits.{CircuitValue}
+use Rattle.lnet_edge.specs.Names.{IsName}
+use Rattle.lnet_edge.specs.Values.{input_place}
+use Rattle.lnet_wires.specs.Naming.{is_seen, with_name}
+use Rattle.lnet_naming.specs.Settling.{is_text_byte, is_constant, is_made, is_plain, made_name, settle_by, settle, settle_all, input_names, output_names, input_labels, output_labels}
+use Rattle.lnet_nodes.specs.Nodes.{name_at, label_of, node_name}
+use Rattle.lnet_bench.specs.Statements.{is_name_byte, is_name}
+use Rattle.lnet_benchwriter.specs.Nodes.{constant_name, use_name}
+use Rattle.lnet_benchwriter.specs.Texts.{shown_name}
+use Rattle.lnet_benchtext.specs.Written.{HasNames}
+use Rattle.lnet_benchtext.proofs.Cutting.{both_true, true_both, all_weaker}
+use Rattle.lnet_benchtext.proofs.Decimals.{made_name-is}
+
+name_byte : (b : ℕ) → is_text_byte b ≡ true → is_name_byte b ≡ true
+name_byte b e = grind (arith, nat_tests)
+
+plain_name : (name : List ℕ) → IsName name → is_plain name ≡ true → is_name name ≡ true
+plain_name name is plain =
+    let first = both_true (list_all is_text_byte name && not (slice_index name 0 == 46) && not (is_constant name)) (not (is_made name)) plain in
+    let second = both_true (list_all is_text_byte name && not (slice_index name 0 == 46)) (not (is_constant name)) first.0 in
+    let third = both_true (list_all is_text_byte name) (not (slice_index name 0 == 46)) second.0 in
+    let some : nat_lt 0 (length name) ≡ true = let h = is.some in grind (arith, nat_tests) in
+    true_both (nat_lt 0 (length name)) (list_all is_name_byte name) some (all_weaker is_text_byte is_name_byte name name_byte third.0)
+
+settled : (made name : List ℕ) (b : Bool) (kept : List (List ℕ)) → is_name made ≡ true → is_name name ≡ true → is_name (settle_by made name (b, kept)).0 ≡ true
+settled made name true kept other is = is
+settled made name false kept other is = other
+
+settle-name : (letter place : ℕ) (kept : List (List ℕ)) (name : Option (List ℕ)) → is_name_byte letter ≡ true → IfSome name IsName → is_name (settle letter place kept name).0 ≡ true
+settle-name letter place kept None is ok = made_name-is letter place is
+settle-name letter place kept (Some name) is ok =
+    elim (is_plain name) as (λ b. is_plain name ≡ b → is_name (settle_by (made_name letter place) name (cond b (not (is_seen kept name), with_name kept name) (false, kept))).0 ≡ true) [
+      | true ↦ λ t. settled (made_name letter place) name (not (is_seen kept name)) (with_name kept name) (made_name-is letter place is) (plain_name name ok t)
+      | false ↦ λ t. made_name-is letter place is
+    ] refl
+
+settle_all-names : (letter place : ℕ) (kept : List (List ℕ)) (names : List (Option (List ℕ))) → is_name_byte letter ≡ true → AllByRecursion (λ name. IfSome name IsName) names → list_all is_name (settle_all letter place kept names).0 ≡ true
+settle_all-names letter place kept [] is all = refl
+settle_all-names letter place kept (name ∷ names) is all =
+    true_both (is_name (settle letter place kept name).0) (list_all is_name (settle_all letter (place + 1) (settle letter place kept name).1 names).0) (settle-name letter place kept name is all.0) (settle_all-names letter (place + 1) (settle letter place kept name).1 names is all.1)
+
+names_of_inputs : (ports : List InputPort) → AllByRecursion (λ (p : InputPort). IfSome p.name IsName) ports → AllByRecursion (λ name. IfSome name IsName) (input_names ports)
+names_of_inputs [] all = tt
+names_of_inputs (p ∷ ps) all = (all.0, names_of_inputs ps all.1)
+
+names_of_outputs : (ports : List OutputPort) → AllByRecursion (λ (p : OutputPort). IfSome p.name IsName) ports → AllByRecursion (λ name. IfSome name IsName) (output_names ports)
+names_of_outputs [] all = tt
+names_of_outputs (p ∷ ps) all = (all.0, names_of_outputs ps all.1)
+
+pub input_labels-names : (c : CircuitValue) → HasNames c → list_all is_name (input_labels c.inputs) ≡ true
+input_labels-names c has = settle_all-names 105 0 [] (input_names c.inputs) refl (names_of_inputs c.inputs has.inputs)
+
+pub output_labels-names : (c : CircuitValue) → HasNames c → list_all is_name (output_labels c.inputs c.outputs) ≡ true
+output_labels-names c has = settle_all-names 111 0 (settle_all 105 0 [] (input_names c.inputs)).1 (output_names c.outputs) refl (names_of_outputs c.outputs has.outputs)
+
+-- ---- nodes
+
+-- each node has a name
+abbrev pub NamesNodes : (ℕ → Option (List ℕ)) → Type 0
+NamesNodes label = (n : ℕ) → is_name (node_name label n) ≡ true
+
+got_name : (names : List (List ℕ)) (k : ℕ) (other : List ℕ) → list_all is_name names ≡ true → is_name other ≡ true → is_name (unwrap_or (slice_get names k) other) ≡ true
+got_name [] k other all is = is
+got_name (x ∷ xs) zero other all is = (both_true (is_name x) (list_all is_name xs) all).0
+got_name (x ∷ xs) (suc k) other all is = got_name xs k other (both_true (is_name x) (list_all is_name xs) all).1 is
+
+named_at : (names : List (List ℕ)) (place : Option ℕ) (other : List ℕ) → list_all is_name names ≡ true → is_name other ≡ true → is_name (unwrap_or (name_at names place) other) ≡ true
+named_at names None other all is = is
+named_at names (Some k) other all is = got_name names k other all is
+
+pub label_of-names : (c : CircuitValue) → HasNames c → NamesNodes (label_of c)
+label_of-names c has = λ n. named_at (input_labels c.inputs) (input_place 0 n c.inputs) (made_name 110 n) (input_labels-names c has) (made_name-is 110 n refl)
+
+constant_name-is : (value : Bool) → is_name (constant_name value) ≡ true
+constant_name-is true = refl
+constant_name-is false = refl
+
+pub use_name-is : (label : ℕ → Option (List ℕ)) (r : WireRef) → NamesNodes label → is_name (use_name label r) ≡ true
+use_name-is label r named = by (eqb r.wire.0 0) r.complement where
+  by : (constant complement : Bool) → is_name (cond constant (constant_name r.complement) (cond complement (made_name 99 r.wire.0) (node_name label r.wire.0))) ≡ true
+  by true complement = constant_name-is r.complement
+  by false true = made_name-is 99 r.wire.0 refl
+  by false false = named r.wire.0
+
+pub use_name-all : (label : ℕ → Option (List ℕ)) (rs : List WireRef) → NamesNodes label → list_all is_name (map (use_name label) rs) ≡ true
+use_name-all label [] named = refl
+use_name-all label (r ∷ rs) named = true_both (is_name (use_name label r)) (list_all is_name (map (use_name label) rs)) (use_name-is label r named) (use_name-all label rs named)
+
+pub node_name-all : (label : ℕ → Option (List ℕ)) (rs : List WireRef) → NamesNodes label → list_all is_name (map (λ (v : WireRef). node_name label v.wire.0) rs) ≡ true
+node_name-all label [] named = refl
+node_name-all label (r ∷ rs) named = true_both (is_name (node_name label r.wire.0)) (list_all is_name (map (λ (v : WireRef). node_name label v.wire.0) rs)) (named r.wire.0) (node_name-all label rs named)
+
+pub shown_name-is : (label : ℕ → Option (List ℕ)) (r : WireRef) → NamesNodes label → is_name (shown_name label r) ≡ true
+shown_name-is label r named = by (eqb r.wire.0 0) where
+  by : (constant : Bool) → is_name (cond constant (constant_name r.complement) (node_name label r.wire.0)) ≡ true
+  by true = constant_name-is r.complement
+  by false = named r.wire.0

@@ -31,22 +31,27 @@ plain_name name is plain =
     let some : nat_lt 0 (length name) ≡ true = let h = is.some in grind (arith, nat_tests) in
     true_both (nat_lt 0 (length name)) (list_all is_name_byte name) some (all_weaker is_text_byte is_name_byte name name_byte third.0)
 
-settled : (made name : List ℕ) (b : Bool) (kept : List (List ℕ)) → is_name made ≡ true → is_name name ≡ true → is_name (settle_by made name (b, kept)).0 ≡ true
-settled made name true kept other is = is
-settled made name false kept other is = other
+-- a test that made names and kept names pass
+pub record Suits (letter : ℕ) (p : List ℕ → Bool) : Type 0 where
+  pub made : (number : ℕ) → p (made_name letter number) ≡ true
+  pub kept : (name : List ℕ) → IsName name → is_plain name ≡ true → p name ≡ true
 
-settle-name : (letter place : ℕ) (kept : List (List ℕ)) (name : Option (List ℕ)) → is_name_byte letter ≡ true → IfSome name IsName → is_name (settle letter place kept name).0 ≡ true
-settle-name letter place kept None is ok = made_name-is letter place is
-settle-name letter place kept (Some name) is ok =
-    elim (is_plain name) as (λ b. is_plain name ≡ b → is_name (settle_by (made_name letter place) name (cond b (not (is_seen kept name), with_name kept name) (false, kept))).0 ≡ true) [
-      | true ↦ λ t. settled (made_name letter place) name (not (is_seen kept name)) (with_name kept name) (made_name-is letter place is) (plain_name name ok t)
-      | false ↦ λ t. made_name-is letter place is
+settled : (p : List ℕ → Bool) (made name : List ℕ) (b : Bool) (kept : List (List ℕ)) → p made ≡ true → p name ≡ true → p (settle_by made name (b, kept)).0 ≡ true
+settled p made name true kept other is = is
+settled p made name false kept other is = other
+
+settle-suits : (p : List ℕ → Bool) (letter place : ℕ) (kept : List (List ℕ)) (name : Option (List ℕ)) → Suits letter p → IfSome name IsName → p (settle letter place kept name).0 ≡ true
+settle-suits p letter place kept None suits ok = suits.made place
+settle-suits p letter place kept (Some name) suits ok =
+    elim (is_plain name) as (λ b. is_plain name ≡ b → p (settle_by (made_name letter place) name (cond b (not (is_seen kept name), with_name kept name) (false, kept))).0 ≡ true) [
+      | true ↦ λ t. settled p (made_name letter place) name (not (is_seen kept name)) (with_name kept name) (suits.made place) (suits.kept name ok t)
+      | false ↦ λ t. suits.made place
     ] refl
 
-settle_all-names : (letter place : ℕ) (kept : List (List ℕ)) (names : List (Option (List ℕ))) → is_name_byte letter ≡ true → AllByRecursion (λ name. IfSome name IsName) names → list_all is_name (settle_all letter place kept names).0 ≡ true
-settle_all-names letter place kept [] is all = refl
-settle_all-names letter place kept (name ∷ names) is all =
-    true_both (is_name (settle letter place kept name).0) (list_all is_name (settle_all letter (place + 1) (settle letter place kept name).1 names).0) (settle-name letter place kept name is all.0) (settle_all-names letter (place + 1) (settle letter place kept name).1 names is all.1)
+settle_all-suits : (p : List ℕ → Bool) (letter place : ℕ) (kept : List (List ℕ)) (names : List (Option (List ℕ))) → Suits letter p → AllByRecursion (λ name. IfSome name IsName) names → list_all p (settle_all letter place kept names).0 ≡ true
+settle_all-suits p letter place kept [] suits all = refl
+settle_all-suits p letter place kept (name ∷ names) suits all =
+    true_both (p (settle letter place kept name).0) (list_all p (settle_all letter (place + 1) (settle letter place kept name).1 names).0) (settle-suits p letter place kept name suits all.0) (settle_all-suits p letter (place + 1) (settle letter place kept name).1 names suits all.1)
 
 names_of_inputs : (ports : List InputPort) → AllByRecursion (λ (p : InputPort). IfSome p.name IsName) ports → AllByRecursion (λ name. IfSome name IsName) (input_names ports)
 names_of_inputs [] all = tt
@@ -56,11 +61,17 @@ names_of_outputs : (ports : List OutputPort) → AllByRecursion (λ (p : OutputP
 names_of_outputs [] all = tt
 names_of_outputs (p ∷ ps) all = (all.0, names_of_outputs ps all.1)
 
+pub input_labels-suit : (p : List ℕ → Bool) (c : CircuitValue) → Suits 105 p → HasNames c → list_all p (input_labels c.inputs) ≡ true
+input_labels-suit p c suits has = settle_all-suits p 105 0 [] (input_names c.inputs) suits (names_of_inputs c.inputs has.inputs)
+
+pub output_labels-suit : (p : List ℕ → Bool) (c : CircuitValue) → Suits 111 p → HasNames c → list_all p (output_labels c.inputs c.outputs) ≡ true
+output_labels-suit p c suits has = settle_all-suits p 111 0 (settle_all 105 0 [] (input_names c.inputs)).1 (output_names c.outputs) suits (names_of_outputs c.outputs has.outputs)
+
 pub input_labels-names : (c : CircuitValue) → HasNames c → list_all is_name (input_labels c.inputs) ≡ true
-input_labels-names c has = settle_all-names 105 0 [] (input_names c.inputs) refl (names_of_inputs c.inputs has.inputs)
+input_labels-names c has = input_labels-suit is_name c (record { made = λ n. made_name-is 105 n refl; kept = plain_name }) has
 
 pub output_labels-names : (c : CircuitValue) → HasNames c → list_all is_name (output_labels c.inputs c.outputs) ≡ true
-output_labels-names c has = settle_all-names 111 0 (settle_all 105 0 [] (input_names c.inputs)).1 (output_names c.outputs) refl (names_of_outputs c.outputs has.outputs)
+output_labels-names c has = output_labels-suit is_name c (record { made = λ n. made_name-is 111 n refl; kept = plain_name }) has
 
 -- ---- nodes
 

@@ -6,3 +6,4 @@ pub mod Lines
 pub mod GateWords
 pub mod Labels
 pub mod Forms
+pub mod Constants

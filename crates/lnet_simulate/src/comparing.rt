@@ -65,8 +65,12 @@ fn first_difference<G: Gates>(
 /// Whether a node and a signal compute one function: `None` exactly where they do under every assignment, else the least number
 /// of an assignment under which they differ. Input `i` is bit `i` of the number.
 ///
-/// There are 16 inputs at most, and the node and the signal's node are live. One pass over the nodes that the two depend on for
-/// each 64 assignments up to that one.
+/// There are 16 inputs at most, and the node and the signal's node are live.
+///
+/// # Errors
+/// `AllocError` where memory runs out.
+///
+/// Linear in the numbers, and then one pass over the nodes that the two depend on for each 64 assignments up to that one.
 pub fn equal_exhaustive<G: Gates>(
     alloc: Global,
     net: &Network<G>,

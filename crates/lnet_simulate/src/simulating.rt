@@ -77,7 +77,10 @@ fn simulate_lane<G: Gates>(
     output_bits(alloc, net, words)
 }
 
-/// The outputs under one assignment: input `k` has the value `bits[k]`.
+/// The outputs under one assignment, in order: input `k` has the value `bits[k]`, and there are as many bits as inputs.
+///
+/// # Errors
+/// `AllocError` where memory runs out.
 ///
 /// Linear in the numbers, and in the nodes that the outputs depend on and their fanins.
 pub fn simulate<G: Gates>(

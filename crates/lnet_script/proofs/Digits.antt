@@ -1,6 +1,6 @@
 -- Digits of a word, and their value.
 use Rattle.std.proofs.Common.{◌≡◌, ℕ, zero, suc, ◌<◌, ◌^◌, Bool, true, false, List, length, get_or, Option, None, Some, Result, Ok, Err, refl, sym, ap, ◌∙◌, arith}
-use Rattle.std.specs.Prelude.{MatchOption, ◌&&◌, ◌==◌, nat_lt, nat_le, drop, [], ◌∷◌, cond}
+use Rattle.std.specs.Prelude.{MatchOption, ◌&&◌, nat_lt, nat_le, drop, [], ◌∷◌, cond}
 use Rattle.std.specs.Fmt.{decimal}
 use Rattle.std.proofs.lemmas.Fmt.{decimal-digits_value, digits_decimal, digits_value-decimal, decimal_nonempty, decimal_digit, first_decimal}
 use Rattle.std.proofs.lemmas.Option.{cond_some}

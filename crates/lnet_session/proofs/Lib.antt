@@ -8,3 +8,4 @@ pub mod Placed
 pub mod Accepted
 pub mod Origins
 pub mod Statuses
+pub mod Numbers

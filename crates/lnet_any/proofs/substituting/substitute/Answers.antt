@@ -1,4 +1,4 @@
-use Rattle.std.proofs.Common.{◌≡◌, ℕ, ◌<◌, length, ap, ◌∙◌, inl, inr, arith}
+use Rattle.std.proofs.Common.{◌<◌, length, ap, ◌∙◌, inl, inr, arith}
 use Rattle.std.proofs.lemmas.Bool.Decides.{eqb_tells}
 use Rattle.std.proofs.lemmas.List.{length-map}
 use Rattle.lnet_gates.specs.Operands.{moved}
@@ -34,11 +34,11 @@ returns-clause-tidy g c =
       free = c.requires.free;
     } in
     λ tidy n is.
-      let named : IsNamed Q n = c.substitutions_keep_the_shape.ensures.tidy g.G.Gates.KIND g.G.Gates.form N c.args.gate.0 c.args.signal Q g.met.G.Gates.laws can c.substitute.ensures.substitutes (λ m at. referenced-named N m (tidy m at)) n is in
-      elim (eqb_tells (references Q n) 0) as (λ _. 0 < references Q n) [
-        | inl p ↦ absurd (unreferenced-unnamed Q n p.1 named)
-        | inr p ↦ (let some = p.1 in omega arith)
-      ]
+    let named : IsNamed Q n = c.substitutions_keep_the_shape.ensures.tidy g.G.Gates.KIND g.G.Gates.form N c.args.gate.0 c.args.signal Q g.met.G.Gates.laws can c.substitute.ensures.substitutes (λ m at. referenced-named N m (tidy m at)) n is in
+    elim (eqb_tells (references Q n) 0) as (λ _. 0 < references Q n) [
+      | inl p ↦ absurd (unreferenced-unnamed Q n p.1 named)
+      | inr p ↦ (let some = p.1 in omega arith)
+    ]
 
 pub returns-clause-outputs_count : goal.returns-clause-outputs_count
 unfolding replaced

@@ -14,8 +14,8 @@ returns-then-word-count c =
 pub returns-in-None : goal.returns-in-None
 returns-in-None c =
     λ bits word count.
-      let some = c.if-count-eq0.false in
-      let same = c.if-word-count.false in
-      let within = c.loop-byte-test.true in
-      let end = c.loop-byte.auto.byte-index-end in
-      word-told bits c.args.word.now c.loop-byte.byte-index 0 (omega arith) (omega arith) word c.in-None.ensures
+    let some = c.if-count-eq0.false in
+    let same = c.if-word-count.false in
+    let within = c.loop-byte-test.true in
+    let end = c.loop-byte.auto.byte-index-end in
+    word-told bits c.args.word.now c.loop-byte.byte-index 0 (omega arith) (omega arith) word c.in-None.ensures

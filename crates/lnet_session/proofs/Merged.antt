@@ -12,7 +12,6 @@ use Rattle.lnet_network.specs.declared.viewing.ViewId.{ViewId}
 use Rattle.lnet_any.specs.declared.any.AnyNet.{AnyNet}
 use Rattle.lnet_any.specs.AnyNets.{network_in, views_in}
 use Rattle.lnet_any.specs.Forms.{form_of}
-use Rattle.lnet_subscriptions.specs.declared.roll.Subscriptions.{Subscriptions}
 use Rattle.lnet_subscriptions.specs.Kept.{Follow, InStepWith, Stand}
 use Rattle.lnet_replies.specs.declared.reply.Reply.{Reply}
 use Rattle.lnet_replies.specs.Texts.{bit_text, bits_word}
@@ -22,7 +21,7 @@ use Rattle.lnet_session.specs.declared.session.Stop.{Stop}
 use Rattle.lnet_session.specs.Made.{IsSound}
 use Rattle.lnet_session.specs.Merging.{MergesIn, bit_named}
 use Rattle.lnet_session.specs.Effects.{Merges}
-use Rattle.lnet_session.specs.States.{Held, State}
+use Rattle.lnet_session.specs.States.{Held}
 use Rattle.lnet_session.specs.Sessions.{FitNames, IsGood, IsGoodPlace, held_in, kept_in, kind_in, room_in, spec_in, state_of}
 
 -- ---- words of values

@@ -24,7 +24,7 @@ use Rattle.lnet_session.specs.Ends.{EndsAs, Untouched}
 use Rattle.lnet_session.specs.States.{Held, State}
 use Rattle.lnet_session.specs.Effects.{Writes, written_text, with_content}
 use Rattle.lnet_session.specs.Steps.{World}
-use Rattle.lnet_session.specs.Runs.{Scene, Turn, Runs, SplitsAt, Ran, Stopped, AfterStop, RunsTo, FollowsOrigin, latest, scene_of}
+use Rattle.lnet_session.specs.Runs.{Scene, Turn, Runs, SplitsAt, Ran, Stopped, AfterStop, RunsTo, FollowsOrigin, scene_of}
 use Rattle.lnet_session.specs.Formats.{reader_of}
 use Rattle.lnet_session.specs.Written.{HoldsOrigin}
 use Rattle.lnet_session.proofs.Keeping.{effect-follows}

@@ -1,5 +1,5 @@
 -- What is kept in a session over a change of its views.
-use Rattle.std.proofs.Common.{◌≡◌, ℕ, false, All, List, [], ◌++◌, map, Option, Some, None, IsSome, Result, Err, refl, sym, ap, subst, ◌∙◌, Global}
+use Rattle.std.proofs.Common.{◌≡◌, false, All, [], ◌++◌, map, Option, Some, None, IsSome, Result, Err, refl, sym, ap, subst, ◌∙◌, Global}
 use Rattle.std.specs.declared.dyn_box.DynBox.{DynBox}
 use Rattle.std.proofs.lemmas.List.{append-nil}
 use Rattle.std.specs.Prelude.{IfOk, OnErr}
@@ -16,12 +16,11 @@ use Rattle.lnet_subscriptions.specs.declared.roll.Subscriptions.{Subscriptions}
 use Rattle.lnet_hashed.specs.Views.{EachSlot, Fits}
 use Rattle.lnet_model.specs.Answers.{kind_for}
 use Rattle.lnet_subscriptions.specs.Kept.{Follow, InStepWith, Rest, Stand, roll_of}
-use Rattle.lnet_subscriptions.specs.Rolls.{Roll, all_shelved}
+use Rattle.lnet_subscriptions.specs.Rolls.{all_shelved}
 use Rattle.lnet_session.specs.declared.session.Place.{Place}
 use Rattle.lnet_session.specs.declared.session.Session.{Session}
-use Rattle.lnet_session.specs.States.{Held, State}
 use Rattle.lnet_session.specs.Made.{IsSound}
-use Rattle.lnet_session.specs.Sessions.{FitNames, IsAtRest, IsGood, IsGoodPlace, held_in, kept_in, kind_in, room_in, spec_in, state_of}
+use Rattle.lnet_session.specs.Sessions.{FitNames, IsGood, IsGoodPlace, held_in, kept_in, kind_in, room_in, spec_in, state_of}
 
 -- ---- results
 

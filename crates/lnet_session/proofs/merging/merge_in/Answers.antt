@@ -1,4 +1,4 @@
-use Rattle.std.proofs.Common.{None, Some, refl, sym, subst}
+use Rattle.std.proofs.Common.{None, refl, sym, subst}
 use Rattle.lnet_any.specs.AnyNets.{network_in}
 use Rattle.lnet_any.specs.Forms.{form_of}
 use Rattle.lnet_replies.specs.declared.reply.Reply.TheVariants as reply

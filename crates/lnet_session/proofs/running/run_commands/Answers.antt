@@ -1,4 +1,4 @@
-use Rattle.std.proofs.Common.{◌+◌, ◌≤◌, true, false, arith}
+use Rattle.std.proofs.Common.{◌+◌, true, false, arith}
 use Rattle.lnet_session.specs.declared.stepping.StepEnd.TheVariants as ends
 use Rattle.lnet_session.specs.Sessions.{state_of}
 use Rattle.lnet_session.specs.Steps.{World}

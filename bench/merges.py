@@ -4,7 +4,7 @@
     bench/merges.py [PROGRAM] [NETWORKS] [FIRST]
 
 Generates NETWORKS networks from the numbers FIRST on, of each kind in turn, and lets random pairs of a gate and a signal be merged in a run of
-PROGRAM (`crates/lognet/out/lognet`). Half of the pairs have one function, the others are any. After each merge the program prints the
+PROGRAM (`crates/lognet/out/lognet`). Most of the pairs have one function, the others are any. After each merge the program prints the
 network, simulates it and asks the depth view for each level. Everything that it says is compared with what this script computes from the
 network printed before: the answer and its cause, the functions of the outputs, the count of gates of the network with the gate replaced and
 built anew under structural hashing, normal forms, levels, and that no gate is without a reference. It stops at the first difference.
@@ -226,13 +226,13 @@ def answer_of(net, n, code, values):
 
 
 def pairs(net, rng, count):
-    """Pairs of a gate and a signal, half of them of one function."""
+    """Pairs of a gate and a signal, most of them of one function."""
     values = net.values()
     ones = (1 << 2 ** len(net.inputs)) - 1
     like = {}
     for n, value in values.items():
         like.setdefault(min(value, value ^ ones), []).append(n)
-    same = [(n, m) for group in like.values() for n in group if n in net.gates for m in group if m != n]
+    same = [(n, m) for group in like.values() for n in group if n in net.gates for m in group if not net.depends(m, n)]
     out = []
     for _ in range(count):
         if same and rng.random() < 0.75:

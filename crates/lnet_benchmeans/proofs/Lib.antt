@@ -1,0 +1,4 @@
+pub mod Differing
+pub mod Settled
+pub mod Middle
+pub mod Once

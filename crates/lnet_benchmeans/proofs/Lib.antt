@@ -2,3 +2,4 @@ pub mod Differing
 pub mod Settled
 pub mod Middle
 pub mod Once
+pub mod Wires

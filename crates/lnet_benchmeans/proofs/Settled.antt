@@ -55,7 +55,7 @@ any_before : (p : List ℕ → Bool) (ns ms : List (List ℕ)) → list_any p ns
 any_before p [] ms seen = absurd (false≢true seen)
 any_before p (n ∷ ns) ms seen = elim (p n) as (λ b. (b || list_any p ns) ≡ true → (b || list_any p (ns ++ ms)) ≡ true) [ true ↦ λ t. refl | false ↦ λ t. any_before p ns ms t ] seen
 
-still_seen : (kept : List (List ℕ)) (name x : List ℕ) → is_seen kept x ≡ true → is_seen (with_name kept name) x ≡ true
+pub still_seen : (kept : List (List ℕ)) (name x : List ℕ) → is_seen kept x ≡ true → is_seen (with_name kept name) x ≡ true
 still_seen kept name x seen = elim (is_seen kept name) as (λ s. is_seen (cond s kept (kept ++ name ∷ [])) x ≡ true) [ true ↦ seen | false ↦ any_before (bytes_eq x) kept (name ∷ []) seen ]
 
 -- what was not seen later was not seen before

@@ -3,11 +3,17 @@
 ghost use Rattle.std.specs.List.{IsDistinct};
 ghost use Rattle.std.specs.Str.{bytes_eq};
 ghost use Rattle.lnet_edge.specs.Circuits.{CircuitValue};
-ghost use Rattle.lnet_edge.specs.Wires.{IsCircuit};
+ghost use Rattle.lnet_edge.specs.Wires.{IsTwice, IsCircuit};
+ghost use Rattle.lnet_bench.specs.Texts.{circuit_of};
 ghost use Rattle.lnet_benchtext.specs.Written.{written_statements};
 ghost use Rattle.lnet_benchmeans.specs.Driving.{HasWires, driven_names};
 
 /// No two statements of a written text drive one name: names of inputs, gates, complements and outputs differ.
 pub fn names_are_driven_once()
     ensures { (c : CircuitValue) → HasWires c → IsCircuit c → IsDistinct bytes_eq (driven_names (written_statements c)) }
+{}
+
+/// No wire of the circuit of a written text is driven twice.
+pub fn wires_are_driven_once()
+    ensures { (c : CircuitValue) → HasWires c → IsCircuit c → ¬ (IsTwice (circuit_of (written_statements c))) }
 {}

@@ -117,7 +117,7 @@ none_repeats (x ∷ xs) differ zero (suc j) below within = at_place x xs j diffe
 none_repeats (x ∷ xs) differ (suc i) zero below within = absurd (omega arith)
 none_repeats (x ∷ xs) differ (suc i) (suc j) below within = none_repeats xs differ.1 i j (omega arith) (omega arith)
 
-once_differ : (xs : List ℕ) → Differ xs → ¬ (Repeats xs)
+pub once_differ : (xs : List ℕ) → Differ xs → ¬ (Repeats xs)
 once_differ xs differ (i, j, below, within, same) = none_repeats xs differ i j below within same
 
 above_zero : (names xs : List (List ℕ)) → AllByRecursion (λ w. 0 ≢ w) (map (wire_of names) xs)

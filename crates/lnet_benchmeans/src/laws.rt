@@ -1,12 +1,14 @@
 //! Laws of the circuits of written texts.
 
+ghost use Rattle.std.specs.Prelude.{List};
 ghost use Rattle.std.specs.List.{IsDistinct};
 ghost use Rattle.std.specs.Str.{bytes_eq};
 ghost use Rattle.lnet_edge.specs.Circuits.{CircuitValue};
-ghost use Rattle.lnet_edge.specs.Wires.{IsTwice, IsCircuit};
+ghost use Rattle.lnet_edge.specs.Wires.{IsUndriven, IsTwice, IsCyclic, IsCircuit};
+ghost use Rattle.lnet_bench.specs.Statements.{StatementValue};
 ghost use Rattle.lnet_bench.specs.Texts.{circuit_of};
 ghost use Rattle.lnet_benchtext.specs.Written.{written_statements};
-ghost use Rattle.lnet_benchmeans.specs.Driving.{HasWires, driven_names};
+ghost use Rattle.lnet_benchmeans.specs.Driving.{HasWires, driven_names, IsOrdered};
 
 /// No two statements of a written text drive one name: names of inputs, gates, complements and outputs differ.
 pub fn names_are_driven_once()
@@ -16,4 +18,11 @@ pub fn names_are_driven_once()
 /// No wire of the circuit of a written text is driven twice.
 pub fn wires_are_driven_once()
     ensures { (c : CircuitValue) → HasWires c → IsCircuit c → ¬ (IsTwice (circuit_of (written_statements c))) }
+{}
+
+/// The circuit of ordered statements: each wire that is used is driven, each is driven once, and none depends on itself.
+pub fn ordered_statements_keep_the_rules()
+    ensures driven { (ss : List StatementValue) → IsOrdered ss → ¬ (IsUndriven (circuit_of ss)) }
+    ensures once { (ss : List StatementValue) → IsOrdered ss → ¬ (IsTwice (circuit_of ss)) }
+    ensures acyclic { (ss : List StatementValue) → IsOrdered ss → ¬ (IsCyclic (circuit_of ss)) }
 {}

@@ -3,4 +3,4 @@
 
 mod laws;
 
-pub use laws::{names_are_driven_once, wires_are_driven_once};
+pub use laws::{names_are_driven_once, ordered_statements_keep_the_rules, wires_are_driven_once};

@@ -1,13 +1,13 @@
 -- Equations that use what is driven before them have no cycles.
-use Rattle.std.proofs.Common.{◌≡◌, ◌≢◌, ℕ, zero, suc, ◌+◌, ◌<◌, ◌≤◌, Bool, true, false, cond, eqb, List, [], ◌∷◌, ◌++◌, length, map, refl, sym, ap, subst, ◌∙◌, inl, inr, arith}
-use Rattle.std.specs.Prelude.{◌⊎◌, Contains, All, flat_map}
+use Rattle.std.proofs.Common.{◌≡◌, ◌≢◌, ℕ, suc, ◌<◌, ◌≤◌, Bool, true, cond, eqb, List, [], ◌∷◌, refl, sym, ap, subst, ◌∙◌, inl, inr, arith}
+use Rattle.std.specs.Prelude.{◌⊎◌, flat_map}
 use Rattle.std.specs.List.{AllByRecursion}
 use Rattle.std.proofs.lemmas.Bool.{ne_eqb}
 use Rattle.std.proofs.lemmas.Bool.Decides.{eqb_tells}
 use Rattle.std.proofs.lemmas.List.Elements.{All-from_recursion, All-contains}
 use Rattle.lnet_edge.specs.Circuits.{EquationValue}
 use Rattle.lnet_edge.specs.Wires.{targets, operand_wires, Reads, IsWalk, end_of, ComesBack}
-use Rattle.lnet_benchmeans.proofs.Differing.{Differ, all_weak, all_with, all_both}
+use Rattle.lnet_benchmeans.proofs.Differing.{Differ, all_weak, all_both}
 
 -- each equation uses wire 0, and wires that were driven before it
 abbrev pub IsAhead : (ℕ → Type 0) → List EquationValue → Type 0
@@ -23,6 +23,7 @@ all_used P K (e ∷ es) none each all ahead =
     used : (v : ℕ) → ((v ≡ 0) ⊎ K v) → P v
     used v (inl is) = subst P (sym is) none
     used v (inr k) = each v k
+
     later : (v : ℕ) → ((v ≡ e.target) ⊎ K v) → P v
     later v (inl is) = subst P (sym is) all.0
     later v (inr k) = each v k
@@ -52,11 +53,12 @@ same_ranks R S i (t ∷ ts) same ranks = (same.0 ∙ ranks.0, same_ranks R S (su
 
 ranks_rise : (i : ℕ) (ts : List ℕ) → Differ ts → RanksFrom (rank_in i ts) i ts
 ranks_rise i [] differ = tt
-ranks_rise i (t ∷ ts) differ =
-    (ap (λ (b : Bool). cond b (suc i) (rank_in (suc i) ts t)) (eqb_same t t refl),
-    same_ranks (rank_in i (t ∷ ts)) (rank_in (suc i) ts) (suc i) ts
-    (all_weak (λ y. t ≢ y) (λ y. rank_in i (t ∷ ts) y ≡ rank_in (suc i) ts y) ts (λ y apart. ap (λ (b : Bool). cond b (suc i) (rank_in (suc i) ts y)) (ne_eqb t y apart)) differ.0)
-    (ranks_rise (suc i) ts differ.1))
+ranks_rise i (t ∷ ts) differ = (
+  ap (λ (b : Bool). cond b (suc i) (rank_in (suc i) ts t)) (eqb_same t t refl),
+  same_ranks (rank_in i (t ∷ ts)) (rank_in (suc i) ts) (suc i) ts
+      (all_weak (λ y. t ≢ y) (λ y. rank_in i (t ∷ ts) y ≡ rank_in (suc i) ts y) ts (λ y apart. ap (λ (b : Bool). cond b (suc i) (rank_in (suc i) ts y)) (ne_eqb t y apart)) differ.0)
+      (ranks_rise (suc i) ts differ.1),
+)
 
 -- ---- operands have lesser ranks
 
@@ -65,15 +67,18 @@ AllFall R es = AllByRecursion (λ (e : EquationValue). AllByRecursion (λ v. R v
 
 all_fall : (R : ℕ → ℕ) (K : ℕ → Type 0) (i : ℕ) (es : List EquationValue) → R 0 ≤ i → ((v : ℕ) → K v → R v ≤ i) → RanksFrom R i (targets es) → IsAhead K es → AllFall R es
 all_fall R K i [] none each ranks ahead = tt
-all_fall R K i (e ∷ es) none each ranks ahead =
-    (all_weak (λ v. (v ≡ 0) ⊎ K v) (λ v. R v < R e.target) (operand_wires e) used ahead.0,
-    all_fall R (λ v. (v ≡ e.target) ⊎ K v) (suc i) es (omega arith) later ranks.1 ahead.1)
+all_fall R K i (e ∷ es) none each ranks ahead = (
+  all_weak (λ v. (v ≡ 0) ⊎ K v) (λ v. R v < R e.target) (operand_wires e) used ahead.0,
+  all_fall R (λ v. (v ≡ e.target) ⊎ K v) (suc i) es (omega arith) later ranks.1 ahead.1,
+)
   where
     at : R e.target ≡ suc i
     at = ranks.0
+
     used : (v : ℕ) → ((v ≡ 0) ⊎ K v) → R v < R e.target
     used v (inl is) = let same = ap R is in let head = at in omega arith
     used v (inr k) = let low = each v k in let head = at in omega arith
+
     later : (v : ℕ) → ((v ≡ e.target) ⊎ K v) → R v ≤ suc i
     later v (inl is) = let same = ap R is in let head = at in omega arith
     later v (inr k) = let low = each v k in omega arith

@@ -1,13 +1,12 @@
 -- The circuit of ordered statements has no cycles, and drives what it uses.
-use Rattle.std.proofs.Common.{◌≡◌, ◌≢◌, ℕ, ◌+◌, ◌<◌, Bool, true, false, cond, List, [], ◌∷◌, ◌++◌, length, map, Option, Some, None, codes, refl, sym, ap, subst, ◌∙◌, inl, inr, arith}
-use Rattle.std.specs.Prelude.{◌⊎◌, ◌||◌, not, Contains, All, IsTrue, flat_map}
-use Rattle.std.specs.List.{AllByRecursion, IsDistinct, list_any}
+use Rattle.std.proofs.Common.{◌≡◌, ◌≢◌, ℕ, Bool, true, false, cond, List, [], ◌∷◌, map, Option, Some, None, codes, refl, sym, ap, subst, ◌∙◌, inl, inr}
+use Rattle.std.specs.Prelude.{◌⊎◌, ◌||◌, not, Contains, flat_map}
+use Rattle.std.specs.List.{AllByRecursion, IsDistinct}
 use Rattle.std.specs.Str.{bytes_eq}
 use Rattle.std.proofs.lemmas.Bool.{false≢true}
 use Rattle.std.proofs.lemmas.List.Elements.{All-from_recursion, recursion_from_All, All-contains, All-contains_itself}
 use Rattle.std.proofs.lemmas.Slice.Eq.{bytes_eq-Decides}
 use Rattle.lnet_edge.specs.declared.circuit.WireRef.{WireRef}
-use Rattle.lnet_edge.specs.Circuits.{CircuitValue, EquationValue}
 use Rattle.lnet_edge.specs.Wires.{input_wires, output_wires, targets, operand_wires, driven_wires, used_wires, IsUndriven, IsTwice, IsCyclic}
 use Rattle.lnet_wires.specs.Naming.{is_seen, wire_of}
 use Rattle.lnet_bench.specs.Statements.{StatementValue, Input, Output, Gate, Constant}
@@ -75,12 +74,14 @@ wires_ahead : (given : List StatementValue) (names : List (List ℕ)) → drives
 wires_ahead given names gnd vdd [] known K all each ordered = tt
 wires_ahead given names gnd vdd (Input name ∷ ss) known K all each ordered = wires_ahead given names gnd vdd ss (name ∷ known) K all.1 (holds_more K names known name all.0 each) ordered
 wires_ahead given names gnd vdd (Output name ∷ ss) known K all each ordered = wires_ahead given names gnd vdd ss known K all each ordered
-wires_ahead given names gnd vdd (Gate target rule operands ∷ ss) known K all each ordered =
-    (operands_hold K given names known gnd vdd each operands ordered.0,
-    wires_ahead given names gnd vdd ss (target ∷ known) (λ v. (v ≡ wire_of names target) ⊎ K v) (wider K (wire_of names target) (input_wires (inputs_by names ss)) all) (behind K names known target each) ordered.1)
-wires_ahead given names gnd vdd (Constant target value ∷ ss) known K all each ordered =
-    (tt,
-    wires_ahead given names gnd vdd ss (target ∷ known) (λ v. (v ≡ wire_of names target) ⊎ K v) (wider K (wire_of names target) (input_wires (inputs_by names ss)) all) (behind K names known target each) ordered)
+wires_ahead given names gnd vdd (Gate target rule operands ∷ ss) known K all each ordered = (
+  operands_hold K given names known gnd vdd each operands ordered.0,
+  wires_ahead given names gnd vdd ss (target ∷ known) (λ v. (v ≡ wire_of names target) ⊎ K v) (wider K (wire_of names target) (input_wires (inputs_by names ss)) all) (behind K names known target each) ordered.1,
+)
+wires_ahead given names gnd vdd (Constant target value ∷ ss) known K all each ordered = (
+  tt,
+  wires_ahead given names gnd vdd ss (target ∷ known) (λ v. (v ≡ wire_of names target) ⊎ K v) (wider K (wire_of names target) (input_wires (inputs_by names ss)) all) (behind K names known target each) ordered,
+)
 
 none_known : (K : ℕ → Type 0) (names : List (List ℕ)) → HoldsOf K names []
 none_known K names x seen = absurd (false≢true seen)

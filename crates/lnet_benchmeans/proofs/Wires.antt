@@ -1,9 +1,6 @@
 -- No wire of the circuit of statements is driven twice.
-use Rattle.std.proofs.Common.{◌≡◌, ◌≢◌, ℕ, zero, suc, ◌+◌, ◌<◌, Bool, true, false, cond, List, [], ◌∷◌, ◌++◌, length, map, get_or, Option, Some, None, refl, sym, ap, ◌∙◌, arith}
-use Rattle.std.specs.Prelude.{◌||◌}
-use Rattle.std.specs.List.{AllByRecursion, list_any}
-use Rattle.std.specs.Str.{bytes_eq}
-use Rattle.std.proofs.lemmas.Bool.{false≢true}
+use Rattle.std.proofs.Common.{◌≡◌, ◌≢◌, ℕ, zero, suc, ◌<◌, Bool, true, List, [], ◌∷◌, length, map, get_or, Option, Some, None, sym, arith}
+use Rattle.std.specs.List.{AllByRecursion}
 use Rattle.lnet_edge.specs.Circuits.{CircuitValue}
 use Rattle.lnet_edge.specs.Wires.{input_wires, targets, driven_wires, Repeats, IsTwice, IsCircuit}
 use Rattle.lnet_wires.specs.Naming.{is_seen, with_name, wire_of}
@@ -130,9 +127,10 @@ wires_once ss differ =
     let names = names_of ss in
     let wires = differ_mapped (λ x. is_seen names x ≡ true) (wire_of names) (driven_names ss) (λ x y p q e. apart names x y p q e) (driven_seen ss [] ss) differ in
     let split = splits ss names ss wires in
-    let zeros = above_zero names (driven_names ss) in
-    (all_both (λ w. 0 ≢ w) (input_wires (inputs_by names ss)) (targets (equations_by (driven_by ss) names ss)) (all_inputs (λ w. 0 ≢ w) names ss zeros) (all_targets (λ w. 0 ≢ w) ss names ss zeros),
-    differ_both (input_wires (inputs_by names ss)) (targets (equations_by (driven_by ss) names ss)) split.inputs split.equations split.between)
+    let zeros = above_zero names (driven_names ss) in (
+      all_both (λ w. 0 ≢ w) (input_wires (inputs_by names ss)) (targets (equations_by (driven_by ss) names ss)) (all_inputs (λ w. 0 ≢ w) names ss zeros) (all_targets (λ w. 0 ≢ w) ss names ss zeros),
+      differ_both (input_wires (inputs_by names ss)) (targets (equations_by (driven_by ss) names ss)) split.inputs split.equations split.between,
+    )
 
 pub never_twice : (c : CircuitValue) → HasWires c → IsCircuit c → ¬ (IsTwice (circuit_of (written_statements c)))
 never_twice c wires is = once_differ (driven_wires (circuit_of (written_statements c))) (wires_once (written_statements c) (names_differ c wires is))

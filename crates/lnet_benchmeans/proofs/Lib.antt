@@ -5,3 +5,5 @@ pub mod Once
 pub mod Wires
 pub mod Falling
 pub mod Ordering
+pub mod Plain
+pub mod Nodes

@@ -7,3 +7,4 @@ pub mod Falling
 pub mod Ordering
 pub mod Plain
 pub mod Nodes
+pub mod Tables

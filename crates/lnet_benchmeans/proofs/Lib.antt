@@ -8,3 +8,4 @@ pub mod Ordering
 pub mod Plain
 pub mod Nodes
 pub mod Tables
+pub mod TableForm

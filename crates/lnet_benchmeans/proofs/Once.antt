@@ -109,10 +109,10 @@ whole_differ c is rule operands names middle =
     ins_are)
 
 -- the wires that inputs and equations drive
-wires_differ : (c : CircuitValue) → IsCircuit c → Differ (input_wires c.inputs ++ targets c.equations)
+pub wires_differ : (c : CircuitValue) → IsCircuit c → Differ (input_wires c.inputs ++ targets c.equations)
 wires_differ c is = (differ_once (driven_wires c) is.once).1
 
-wires_small : (c : CircuitValue) → HasWires c → AllByRecursion IsSmall (input_wires c.inputs ++ targets c.equations)
+pub wires_small : (c : CircuitValue) → HasWires c → AllByRecursion IsSmall (input_wires c.inputs ++ targets c.equations)
 wires_small c wires = all_weak (λ (w : ℕ). w < 2 ^ 32) IsSmall (input_wires c.inputs ++ targets c.equations) (λ w small. omega arith) wires.1
 
 words_differ : (c : CircuitValue) → HasWires c → IsCircuit c → (label : ℕ → Option (List ℕ)) (turned : ℕ → Bool) → Differ ((input_labels c.inputs ++ []) ++ driven_names (word_form_statements label turned c))

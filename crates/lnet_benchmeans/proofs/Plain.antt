@@ -37,13 +37,13 @@ pub one_of_itself : (xs : List ℕ) → AllByRecursion (IsOneOf xs) xs
 one_of_itself [] = tt
 one_of_itself (x ∷ xs) = (inl refl, all_weak (IsOneOf xs) (IsOneOf (x ∷ xs)) xs (λ w one. inr one) (one_of_itself xs))
 
-one_both : (xs ys : List ℕ) (w : ℕ) → IsOneOf (xs ++ ys) w → IsOneOf xs w ⊎ IsOneOf ys w
+pub one_both : (xs ys : List ℕ) (w : ℕ) → IsOneOf (xs ++ ys) w → IsOneOf xs w ⊎ IsOneOf ys w
 one_both [] ys w one = inr one
 one_both (x ∷ xs) ys w (inl is) = inl (inl is)
 one_both (x ∷ xs) ys w (inr one) = ⊎_elim (λ h. inl (inr h)) (λ h. inr h) (one_both xs ys w one)
 
 -- a wire that is used is driven
-used_one : (c : CircuitValue) → IsCircuit c → AllByRecursion (IsOneOf (driven_wires c)) (used_wires c)
+pub used_one : (c : CircuitValue) → IsCircuit c → AllByRecursion (IsOneOf (driven_wires c)) (used_wires c)
 used_one c is = all_weak (Contains (used_wires c)) (IsOneOf (driven_wires c)) (used_wires c) (λ w used. ⊎_elim (λ h. h) (λ none. absurd (is.driven (w, used, none))) (one_tells (driven_wires c) w)) (recursion_from_All (Contains (used_wires c)) (used_wires c) (All-contains_itself (used_wires c)))
 
 -- ---- order

@@ -25,10 +25,10 @@ use Rattle.lnet_benchmeans.proofs.Plain.{IsOneOf}
 abbrev pub AreNamed : (ℕ → Option (List ℕ)) → (ℕ → Type 0) → List (List ℕ) → Type 0
 AreNamed label K known = (w : ℕ) → K w → is_seen known (node_name label w) ≡ true
 
-more_seen : (known : List (List ℕ)) (name x : List ℕ) → is_seen known x ≡ true → is_seen (name ∷ known) x ≡ true
+pub more_seen : (known : List (List ℕ)) (name x : List ℕ) → is_seen known x ≡ true → is_seen (name ∷ known) x ≡ true
 more_seen known name x seen = elim (bytes_eq x name) as (λ b. (b || is_seen known x) ≡ true) [ true ↦ refl | false ↦ seen ]
 
-first_seen : (known : List (List ℕ)) (name : List ℕ) → is_seen (name ∷ known) name ≡ true
+pub first_seen : (known : List (List ℕ)) (name : List ℕ) → is_seen (name ∷ known) name ≡ true
 first_seen known name = ap (λ (b : Bool). b || is_seen known name) ((bytes_eq-Decides name name).1 refl)
 
 -- one more gate is named

@@ -9,3 +9,4 @@ pub mod Plain
 pub mod Nodes
 pub mod Tables
 pub mod TableForm
+pub mod TableTexts

@@ -47,7 +47,7 @@ get_seen (name ∷ names) (suc k) low =
     let r = get_seen names k (omega arith) in
     (r.0, r.1, elim (bytes_eq r.0 name) as (λ b. (b || is_seen names r.0) ≡ true) [ true ↦ refl | false ↦ r.2 ])
 
-length_labels : (letter place : ℕ) (kept : List (List ℕ)) (names : List (Option (List ℕ))) → length (settle_all letter place kept names).0 ≡ length names
+pub length_labels : (letter place : ℕ) (kept : List (List ℕ)) (names : List (Option (List ℕ))) → length (settle_all letter place kept names).0 ≡ length names
 length_labels letter place kept [] = refl
 length_labels letter place kept (name ∷ names) = ap suc (length_labels letter (place + 1) (settle letter place kept name).1 names)
 

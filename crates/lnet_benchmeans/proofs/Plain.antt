@@ -1,12 +1,12 @@
 -- Each equation of a plain circuit uses what is driven before it.
-use Rattle.std.proofs.Common.{◌≡◌, ◌≢◌, ℕ, zero, suc, ◌+◌, ◌<◌, Bool, true, false, List, [], ◌∷◌, ◌++◌, length, map, get_or, refl, sym, ap, subst, ◌∙◌, inl, inr, ⊎_elim, arith}
-use Rattle.std.specs.Prelude.{◌⊎◌, Contains, All, flat_map}
+use Rattle.std.proofs.Common.{◌≡◌, ◌≢◌, ℕ, zero, suc, ◌<◌, List, [], ◌∷◌, ◌++◌, length, get_or, refl, sym, ap, subst, inl, inr, ⊎_elim, arith}
+use Rattle.std.specs.Prelude.{◌⊎◌, Contains, flat_map}
 use Rattle.std.specs.List.{AllByRecursion}
 use Rattle.std.proofs.lemmas.Bool.Decides.{eqb_tells}
 use Rattle.std.proofs.lemmas.List.Elements.{recursion_from_All, All-contains_itself}
 use Rattle.lnet_edge.specs.Circuits.{CircuitValue, EquationValue}
 use Rattle.lnet_edge.specs.Plain.{IsPlain}
-use Rattle.lnet_edge.specs.Searches.{ReadsPlace, operands_at}
+use Rattle.lnet_edge.specs.Searches.{ReadsPlace}
 use Rattle.lnet_edge.specs.Wires.{input_wires, output_wires, targets, operand_wires, driven_wires, used_wires, IsCircuit}
 use Rattle.lnet_benchmeans.proofs.Differing.{all_weak, all_with, all_first, all_second}
 use Rattle.lnet_benchmeans.proofs.Falling.{IsAhead}
@@ -84,9 +84,10 @@ ahead_by K [] back met = tt
 ahead_by K (e ∷ es) back met =
     let own = recursion_from_All (Contains (operand_wires e)) (operand_wires e) (All-contains_itself (operand_wires e)) in
     let first = all_first (IsMet K (targets (e ∷ es))) (operand_wires e) (flat_map operand_wires es) met in
-    let rest = all_second (IsMet K (targets (e ∷ es))) (operand_wires e) (flat_map operand_wires es) met in
-    (all_weak (λ w. Contains (operand_wires e) w × IsMet K (targets (e ∷ es)) w) (λ w. (w ≡ 0) ⊎ K w) (operand_wires e) (λ w h. first_met K e es back w h.0 h.1) (all_with (Contains (operand_wires e)) (IsMet K (targets (e ∷ es))) (operand_wires e) own first),
-    ahead_by (λ v. (v ≡ e.target) ⊎ K v) es (looks_later e es back) (all_weak (IsMet K (targets (e ∷ es))) (IsMet (λ v. (v ≡ e.target) ⊎ K v) (targets es)) (flat_map operand_wires es) (later_met K e es) rest))
+    let rest = all_second (IsMet K (targets (e ∷ es))) (operand_wires e) (flat_map operand_wires es) met in (
+      all_weak (λ w. Contains (operand_wires e) w × IsMet K (targets (e ∷ es)) w) (λ w. (w ≡ 0) ⊎ K w) (operand_wires e) (λ w h. first_met K e es back w h.0 h.1) (all_with (Contains (operand_wires e)) (IsMet K (targets (e ∷ es))) (operand_wires e) own first),
+      ahead_by (λ v. (v ≡ e.target) ⊎ K v) es (looks_later e es back) (all_weak (IsMet K (targets (e ∷ es))) (IsMet (λ v. (v ≡ e.target) ⊎ K v) (targets es)) (flat_map operand_wires es) (later_met K e es) rest),
+    )
 
 met_by : (is ts : List ℕ) (w : ℕ) → IsOneOf (0 ∷ (is ++ ts)) w → IsMet (IsOneOf is) ts w
 met_by is ts w (inl zero_is) = inl zero_is

@@ -1,5 +1,5 @@
 -- The statements of a circuit whose gates have tables use names that are driven before them.
-use Rattle.std.proofs.Common.{◌≡◌, ◌≢◌, ℕ, Bool, true, false, List, [], ◌∷◌, ◌++◌, map, Option, sym, subst, append_assoc, inl, inr, refl}
+use Rattle.std.proofs.Common.{◌≡◌, ◌≢◌, ℕ, true, false, List, [], ◌∷◌, ◌++◌, map, sym, subst, append_assoc, inl, inr, refl}
 use Rattle.std.specs.Prelude.{◌⊎◌, ◌||◌, flat_map}
 use Rattle.std.specs.List.{AllByRecursion}
 use Rattle.std.specs.Str.{bytes_eq}
@@ -11,13 +11,13 @@ use Rattle.lnet_wires.specs.Naming.{is_seen}
 use Rattle.lnet_naming.specs.Settling.{made_name, input_labels, output_labels}
 use Rattle.lnet_nodes.specs.Nodes.{label_of, node_name}
 use Rattle.lnet_bench.specs.Statements.{StatementValue, Input, Output}
-use Rattle.lnet_benchtext.specs.Written.{port_statements, output_statements, table_statement, table_output_statement, table_form_statements}
+use Rattle.lnet_benchtext.specs.Written.{port_statements, output_statements, table_output_statement, table_form_statements}
 use Rattle.lnet_benchmeans.specs.Driving.{IsOrderedBehind}
 use Rattle.lnet_benchmeans.proofs.Differing.{Apart, all_weak, all_with, all_first, differ_apart}
 use Rattle.lnet_benchmeans.proofs.Once.{wires_differ}
 use Rattle.lnet_benchmeans.proofs.Plain.{IsOneOf, one_both, used_one, plain_ahead}
 use Rattle.lnet_benchmeans.proofs.Nodes.{input_named, gate_named}
-use Rattle.lnet_benchmeans.proofs.Tables.{AreNamed, more_seen, tables_then, outputs_last}
+use Rattle.lnet_benchmeans.proofs.Tables.{more_seen, tables_then, outputs_last}
 
 -- ---- ports
 

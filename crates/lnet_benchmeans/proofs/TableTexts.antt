@@ -1,9 +1,6 @@
 -- The statements of a written text whose gates have tables are ordered.
-use Rattle.std.proofs.Common.{◌≡◌, ℕ, suc, pred, Bool, true, false, cond, List, [], ◌∷◌, ◌++◌, length, map, Option, refl, sym, ap, subst, ◌∙◌, inl, inr}
-use Rattle.std.specs.Prelude.{◌⊎◌, ◌||◌}
-use Rattle.std.specs.List.{AllByRecursion, list_any}
-use Rattle.std.specs.Str.{bytes_eq}
-use Rattle.std.proofs.lemmas.Bool.{false≢true}
+use Rattle.std.proofs.Common.{◌≡◌, ℕ, suc, pred, Bool, true, cond, List, [], ◌∷◌, ◌++◌, length, map, Option, refl, sym, ap, subst, ◌∙◌, inr}
+use Rattle.std.specs.List.{AllByRecursion}
 use Rattle.lnet_edge.specs.declared.circuit.OutputPort.{OutputPort}
 use Rattle.lnet_edge.specs.declared.circuit.WireRef.{WireRef}
 use Rattle.lnet_edge.specs.Circuits.{CircuitValue, EquationValue}
@@ -19,7 +16,7 @@ use Rattle.lnet_benchwriter.specs.Texts.{has_tables}
 use Rattle.lnet_benchtext.specs.Written.{HasNames, port_statements, output_statements, table_statement, table_output_statement, table_form_statements, word_form_statements, written_statements}
 use Rattle.lnet_benchtext.proofs.Constants.{gnd_undriven, vdd_undriven}
 use Rattle.lnet_benchmeans.specs.Driving.{HasWires, driven_names, IsUsable, IsOrderedBehind, shown_names, IsOrdered}
-use Rattle.lnet_benchmeans.proofs.Differing.{all_weak, all_both}
+use Rattle.lnet_benchmeans.proofs.Differing.{all_weak}
 use Rattle.lnet_benchmeans.proofs.Middle.{names_both}
 use Rattle.lnet_benchmeans.proofs.Once.{driven_once}
 use Rattle.lnet_benchmeans.proofs.Nodes.{length_labels}
@@ -84,9 +81,9 @@ table_outputs c =
     let ports = port_statements c in
     let P = IsUsable (driven_names (ports ++ (gates ++ outs))) in
     let drive : driven_names (ports ++ (gates ++ outs)) ≡ driven_names ports ++ (driven_names gates ++ names) =
-      names_both ports (gates ++ outs)
-      ∙ ap (λ (xs : List (List ℕ)). driven_names ports ++ xs) (names_both gates outs)
-      ∙ ap (λ (xs : List (List ℕ)). driven_names ports ++ (driven_names gates ++ xs)) (last_drive label names c.outputs (length_labels 111 0 (settle_all 105 0 [] (input_names c.inputs)).1 (output_names c.outputs) ∙ length_output_names c.outputs)) in
+    names_both ports (gates ++ outs)
+    ∙ ap (λ (xs : List (List ℕ)). driven_names ports ++ xs) (names_both gates outs)
+    ∙ ap (λ (xs : List (List ℕ)). driven_names ports ++ (driven_names gates ++ xs)) (last_drive label names c.outputs (length_labels 111 0 (settle_all 105 0 [] (input_names c.inputs)).1 (output_names c.outputs) ∙ length_output_names c.outputs)) in
     let usable = all_weak (λ x. is_seen names x ≡ true) P names (λ x seen. inr (ap (λ (xs : List (List ℕ)). is_seen xs x) drive ∙ seen_after (driven_names ports) (driven_names gates ++ names) x (seen_after (driven_names gates) names x seen))) (seen_themselves names) in
     shown_both P ports (gates ++ outs)
     (shown_both P (map Input (input_labels c.inputs)) (map Output names) (inputs_show P (input_labels c.inputs)) (outputs_show P names usable))

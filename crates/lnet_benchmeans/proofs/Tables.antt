@@ -1,7 +1,7 @@
 -- The statements of gates with tables use names that are driven before them.
-use Rattle.std.proofs.Common.{◌≡◌, ◌≢◌, ℕ, ◌+◌, ◌<◌, Bool, true, false, cond, eqb, List, [], ◌∷◌, ◌++◌, length, map, Option, refl, sym, ap, subst, ◌∙◌, inl, inr, arith}
-use Rattle.std.specs.Prelude.{◌⊎◌, ◌||◌, ◌&&◌, ◌==◌, not}
-use Rattle.std.specs.List.{AllByRecursion, list_any}
+use Rattle.std.proofs.Common.{◌≡◌, ◌≢◌, ℕ, Bool, true, false, cond, eqb, List, [], ◌∷◌, ◌++◌, map, Option, refl, sym, ap, subst, ◌∙◌, inl, inr}
+use Rattle.std.specs.Prelude.{◌⊎◌, ◌||◌, not}
+use Rattle.std.specs.List.{AllByRecursion}
 use Rattle.std.specs.Str.{bytes_eq}
 use Rattle.std.proofs.lemmas.Bool.Decides.{eqb_tells}
 use Rattle.std.proofs.lemmas.Slice.Eq.{bytes_eq-Decides}
@@ -12,8 +12,8 @@ use Rattle.lnet_edge.specs.Wires.{output_wires, targets}
 use Rattle.lnet_wires.specs.Naming.{is_seen}
 use Rattle.lnet_naming.specs.Settling.{made_name}
 use Rattle.lnet_nodes.specs.Nodes.{node_name}
-use Rattle.lnet_nodes.specs.Rows.{is_variable, variables}
-use Rattle.lnet_bench.specs.Statements.{StatementValue, Input, Output, Gate, Constant}
+use Rattle.lnet_nodes.specs.Rows.{variables}
+use Rattle.lnet_bench.specs.Statements.{StatementValue}
 use Rattle.lnet_benchwriter.specs.Texts.{shown_name}
 use Rattle.lnet_benchwriter.specs.Nodes.{constant_name}
 use Rattle.lnet_benchtext.specs.Written.{output_statements, table_statement, table_output_statement}
@@ -79,6 +79,7 @@ shown_usable label L known each r (inr k) = elim (eqb r.wire.0 0) as (λ b. IsUs
 pub outputs_last : (label : ℕ → Option (List ℕ)) (L : ℕ → Type 0) (names : List (List ℕ)) (ps : List OutputPort) (known : List (List ℕ)) → AreNamed label L known → AllByRecursion (λ w. (w ≡ 0) ⊎ L w) (output_wires ps) → IsOrderedBehind known (output_statements (table_output_statement label) names ps)
 outputs_last label L [] ps known each all = tt
 outputs_last label L (name ∷ names) [] known each all = tt
-outputs_last label L (name ∷ names) (p ∷ ps) known each all =
-    ((shown_usable label L known each p.source all.0, tt),
-    outputs_last label L names ps (name ∷ known) (λ w k. more_seen known name (node_name label w) (each w k)) all.1)
+outputs_last label L (name ∷ names) (p ∷ ps) known each all = (
+  (shown_usable label L known each p.source all.0, tt),
+  outputs_last label L names ps (name ∷ known) (λ w k. more_seen known name (node_name label w) (each w k)) all.1,
+)

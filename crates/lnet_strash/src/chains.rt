@@ -124,6 +124,43 @@ impl Chains {
     }
 }
 
+impl Chains {
+    ghost use Rattle.lnet_strash.specs.Found.{IsPlaceOf};
+
+    /// Where the number is in its chain, and the chain; none exactly where its node stands under no key. As long as the chain.
+    fn place_of(&self, number: u32) -> Option<(Found, usize)>
+        requires table { IsTable self.now.heads.items self.now.next.items self.now.standing.items }
+        ensures place { MatchOption result (at self.now.standing.items number ≡ None) (λ p. IsPlaceOf self.now number p.0 p.1) }
+    {
+        match self.standing.get(number as usize) {
+            Some(place) => match place {
+                Some((key, _)) => {
+                    let chain = chain_of(self.heads.len(), key);
+                    match self.search(key) {
+                        Some(found) => Some((found, chain)),
+                        None => None,
+                    }
+                }
+                None => None,
+            },
+            None => None,
+        }
+    }
+
+    /// Lets the node of the number stand under no key. As long as the key's chain, so constant time on average, and no memory.
+    pub(crate) fn release(&mut self, number: u32)
+        requires table { IsTable self.old.heads.items self.old.next.items self.old.standing.items }
+        ensures table { IsTable self.new.heads.items self.new.next.items self.new.standing.items }
+        ensures released { at self.new.standing.items number ≡ None }
+        ensures others { (m : ℕ) → m ≢ number → at self.new.standing.items m ≡ at self.old.standing.items m }
+        ensures len { length self.new.standing.items ≡ length self.old.standing.items }
+    {
+        if let Some((found, chain)) = self.place_of(number) {
+            self.take_out(found, chain);
+        }
+    }
+}
+
 /// At least so many places, the further ones empty. Linear in the places to come.
 #[tactic(auto, using(crate::proofs::Lengthening::none_more))]
 fn lengthen<T: Drop>(items: &mut Vec<Option<T>>, len: usize) -> Result<(), AllocError>

@@ -95,4 +95,14 @@ impl Strash {
     {
         self.chains.remove(key);
     }
+
+    /// Lets node `n` stand under no key. Constant time on average, and no memory.
+    pub fn release(&mut self, n: Node)
+        ensures released { at self.new n.0 ≡ None }
+        ensures others { (m : ℕ) → m ≢ n.0 → at self.new m ≡ at self.old m }
+        ensures room { room self.new ≡ room self.old }
+        ensures unique { KeysDiffer self.new }
+    {
+        self.chains.release(n.0);
+    }
 }

@@ -1,15 +1,19 @@
 -- The clean gate with a key.
-use Rattle.std.proofs.Common.{◌≡◌, ℕ, Bool, true, false, List, Option, None, Some, refl, sym, ap, subst, ◌∙◌}
-use Rattle.std.specs.Prelude.{MatchOption}
+use Rattle.std.proofs.Common.{◌≡◌, ◌≢◌, ◌↔◌, ℕ, Bool, true, false, List, Option, None, Some, refl, sym, ap, subst, ◌∙◌}
 use Rattle.lnet_gates.specs.declared.signal.Signal.{Signal}
 use mathlib.Core.Bool.{beq}
 use Rattle.lnet_gates.specs.Gates.{GateValue, KeyValue}
 use Rattle.lnet_gates.specs.NormalLaws.{keyed_gate}
 use Rattle.lnet_model.specs.Networks.{NetworkValue, IsGate, entry_at, gate_at, gate_in}
 use Rattle.lnet_model.specs.Changes.{GateAt}
+use Rattle.lnet_strash.specs.Standing.{Standing, at}
+use Rattle.lnet_hashed.specs.declared.keys.Keys.{Keys}
+use Rattle.lnet_hashed.specs.Indexed.{IsIndexed}
 use Rattle.lnet_hashed.specs.Strashed.{key_of, same_key, HoldsKey}
-use Rattle.lnet_hashed.proofs.Keys.{same-keys, same-key-self}
+use Rattle.lnet_hashed.proofs.Indexing.{clean-stands, no-signal, stands-clean}
+use Rattle.lnet_hashed.proofs.KeyLemmas.{same-keys, same-key-self}
 use Rattle.lnet_store.proofs.KeptLemmas.{gate-at}
+use Rattle.lnet_substitution.specs.Cascades.{IsUnusedKey}
 use Rattle.lnet_substitution.proofs.Merging.{not-both}
 use Rattle.lnet_substitution.proofs.Resolving.{same-gates}
 use Rattle.lnet_cascade.specs.Marks.{marks_of}
@@ -25,18 +29,21 @@ beq-self : (a : Bool) → beq a a ≡ true
 beq-self true = refl
 beq-self false = refl
 
--- what holds the key at n, where n is clean
-pub clean-held : (N : NetworkValue) (bs : List Bool) (k : KeyValue) (n : ℕ) → marks_of bs n ≡ false → (o : Option Signal) → MatchOption o ((g : GateValue) → gate_at N n ≡ Some g → same_key k (key_of g) ≡ false) (λ s. HoldsKey N k n s) → MatchOption o ((g : GateValue) → GateAt N n g → marks_of bs n ≡ false → key_of g ≡ k → ⊥) (IsCleanHolder N bs k)
-clean-held N bs k n clean None h = λ g at _ is. not-both (same_key k (key_of g)) (h g (ap gate_in at)) (ap (λ z. same_key k z) is ∙ same-key-self k)
-clean-held N bs k n clean (Some s) h =
-    let node : n ≡ s.node.0 = ap (λ (z : Signal). z.node.0) (sym h.signal) in
-    record {
-      gate = h.gate;
-      at = subst (λ z. GateAt N z h.gate) node (gate-at (entry_at N n) h.gate h.at);
-      clean = subst (λ z. marks_of bs z ≡ false) node clean;
-      key = sym (same-keys k (key_of h.gate) h.key);
-      phase = ap (λ (z : Signal). z.complement) (sym h.signal);
-    }
+-- what stands under the key in the table is the clean gate with it
+module _ (N : NetworkValue) (keys : Keys) (numbers : ℕ) (I : IsIndexed N keys numbers) (k : KeyValue) where
+  pub holder-of : (s : Signal) → at keys.table s.node.0 ≡ Some (k, s.complement) → IsCleanHolder N keys.dirty.items k s
+  holder-of s h = let c = stands-clean N keys numbers I s.node.0 k s.complement h in record { gate = c.gate; at = c.at; clean = c.clean; key = c.key; phase = c.phase }
+
+  -- where nothing does, no clean gate has the key
+  pub unused-of : ((m : ℕ) (p : Bool) → at keys.table m ≢ Some (k, p)) → IsUnusedKey N (marks_of keys.dirty.items) k
+  unused-of absent n g here clean is = absent n g.phase (clean-stands N keys numbers I n g here clean ∙ ap (λ z. Some (z, g.phase)) is)
+
+  pub absent-of : IsUnusedKey N (marks_of keys.dirty.items) k → (m : ℕ) (p : Bool) → at keys.table m ≢ Some (k, p)
+  absent-of unused m p h = let c = stands-clean N keys numbers I m k p h in unused m c.gate c.at c.clean c.key
+
+-- nothing stands under a key that isn't found
+pub nothing-stands : (t : Standing) (k : KeyValue) (r : Option Signal) → ((s : Signal) → (r ≡ Some s) ↔ (at t s.node.0 ≡ Some (k, s.complement))) → r ≡ None → (m : ℕ) (p : Bool) → at t m ≢ Some (k, p)
+nothing-stands t k r stands none m p h = let s : Signal = record { node = record { 0 = m }; complement = p } in no-signal s (sym none ∙ (stands s).1 h)
 
 -- what holds the key at n tells whether a gate of the key with a phase stands there
 pub held-stands : (N : NetworkValue) (k : KeyValue) (n : ℕ) (s : Signal) (phase : Bool) → HoldsKey N k n s → beq s.complement phase ≡ true → GateAt N n (keyed_gate k phase)

@@ -1,10 +1,10 @@
 -- Marks that are cleared, and how many there are; the measure of a cascade.
-use Rattle.std.proofs.Common.{◌≡◌, ◌≢◌, ℕ, zero, suc, ◌+◌, ◌*◌, ◌<◌, ◌≤◌, Bool, true, false, cond, List, [], ◌∷◌, length, sym, ap, subst, ◌∙◌, inl, inr, arith, get_or-set_same, get_or-set_other}
+use Rattle.std.proofs.Common.{◌≡◌, ◌≢◌, ℕ, zero, suc, ◌+◌, ◌*◌, ◌<◌, ◌≤◌, Bool, true, false, cond, ◌⊎◌, refl, length-set, List, [], ◌∷◌, length, sym, ap, subst, ◌∙◌, inl, inr, arith, get_or-set_same, get_or-set_other}
 use Rattle.std.specs.Prelude.{slice_set, count_by}
 use Rattle.std.proofs.lemmas.Bool.Decides.{eqb_tells}
 use Rattle.std.proofs.lemmas.List.Sums.{sum_by-cons, count_by-le-length}
 use Rattle.lnet_model.specs.Networks.{NetworkValue, live_count}
-use Rattle.lnet_cascade.specs.Marks.{marks_of, marked_count}
+use Rattle.lnet_cascade.specs.Marks.{MarkedMore, marks_of, marked_count}
 use Rattle.lnet_cascade.specs.Cascading.{left}
 
 pub inside : (bs : List Bool) (x : ℕ) → marks_of bs x ≡ true → x < length bs
@@ -20,6 +20,29 @@ cleared bs x n hx h = elim (eqb_tells n x) as (λ _. (marks_of bs n ≡ true) ×
 
 pub still : (bs : List Bool) (x n : ℕ) → marks_of bs n ≡ true → n ≢ x → marks_of (slice_set bs x false) n ≡ true
 still bs x n h ne = get_or-set_other bs x n false false ne ∙ h
+
+clear-here : (bs : List Bool) (x : ℕ) → marks_of (slice_set bs x false) x ≡ false
+clear-here [] x = refl
+clear-here (b ∷ bs) zero = refl
+clear-here (b ∷ bs) (suc x) = clear-here bs x
+
+-- what is marked elsewhere stays so, and x is clear before and after
+pub marks-around : (P : ℕ → Type 0) (x : ℕ) (old mid new : List Bool) → (P x → ⊥) → MarkedMore P old mid → new ≡ slice_set mid x false → MarkedMore P (slice_set old x false) new
+marks-around P x old mid new own more is = record {
+  len = ap length is ∙ length-set mid x false ∙ more.len ∙ sym (length-set old x false);
+  only = λ n h. elim (eqb_tells n x) as (λ _. (marks_of (slice_set old x false) n ≡ true) ⊎ P n) [
+    | inl p ↦ absurd (let z : false ≡ true = sym (clear-here mid x) ∙ ap (λ bs. marks_of bs x) (sym is) ∙ subst (λ z. marks_of new z ≡ true) p.1 h in cc)
+    | inr p ↦ elim (more.only n (sym (get_or-set_other mid x n false false p.1) ∙ ap (λ bs. marks_of bs n) (sym is) ∙ h)) as (λ _. (marks_of (slice_set old x false) n ≡ true) ⊎ P n) [
+      | inl k ↦ inl (still old x n k p.1)
+      | inr k ↦ inr k
+    ]
+  ];
+  before = λ n h. elim (eqb_tells n x) as (λ _. marks_of new n ≡ true) [
+    | inl p ↦ absurd (let z : false ≡ true = sym (clear-here old x) ∙ subst (λ z. marks_of (slice_set old x false) z ≡ true) p.1 h in cc)
+    | inr p ↦ ap (λ bs. marks_of bs n) is ∙ still mid x n (more.before n (sym (get_or-set_other old x n false false p.1) ∙ h)) p.1
+  ];
+  those = λ n k. ap (λ bs. marks_of bs n) is ∙ still mid x n (more.those n k) (λ e. own (subst P e k));
+}
 
 count-here : (b : Bool) (bs : List Bool) → count_by (λ b. b) (b ∷ bs) ≡ cond b 1 0 + count_by (λ b. b) bs
 count-here b bs = sum_by-cons (λ b. cond b 1 0) b bs

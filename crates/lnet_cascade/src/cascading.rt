@@ -6,7 +6,7 @@ ghost use Rattle.lnet_gates.specs.Gates.{GateValue};
 ghost use Rattle.lnet_gates.specs.NormalLaws.{keyed_gate};
 ghost use Rattle.lnet_model.specs.Networks.{IsLive};
 ghost use Rattle.lnet_model.specs.Changes.{GateAt};
-ghost use Rattle.lnet_hashed.specs.Strashed.{key_of};
+ghost use Rattle.lnet_hashed.specs.Indexed.{IsIndexed};
 ghost use Rattle.lnet_hashed.specs.Views.{EachSlot, Fits, Kept, SlotsKept};
 ghost use Rattle.lnet_substitution.specs.Cascades.{CanMerge, IsUnusedKey};
 ghost use Rattle.lnet_cascade.specs.Marks.{marks_of, OnlyGates};
@@ -14,8 +14,8 @@ ghost use Rattle.lnet_cascade.specs.Cascading.{IsBegun, GoesOn, IsCleanHolder, l
 ghost use Rattle.lnet_cascade.specs.Rooms.{StoreHasRoom};
 
 use crate::redirecting::{Redirection, replace};
-use lnet_gates::{Gate, Gates, Key, Node, Normal, Signal};
-use lnet_hashed::{held, tell};
+use lnet_gates::{Gates, Key, Node, Normal, Signal};
+use lnet_hashed::{Keys, gate_of, held, tell};
 use lnet_store::{Event, Store, View};
 
 /// Whether the number is marked; one past the marks isn't.
@@ -37,28 +37,6 @@ fn first_dirty(store: &Store, dirty: &Vec<bool>) -> Option<Node>
     None
 }
 
-/// The signal of the gate at a number, where it is clean and has the key.
-fn clean_holder(store: &Store, dirty: &Vec<bool>, n: u32, key: &Key) -> Option<Signal>
-    ensures { MatchOption result ((g : GateValue) → GateAt store.now.network n g → marks_of dirty.now.items n ≡ false → key_of g ≡ key.now → ⊥) (IsCleanHolder store.now.network dirty.now.items key.now) }
-{
-    if is_marked(dirty, n) {
-        return None;
-    }
-    held(store, n, key)
-}
-
-/// The signal of the clean gate with the key, by a look at each number; `None` exactly where no clean gate has it.
-fn find_clean(store: &Store, dirty: &Vec<bool>, key: &Key) -> Option<Signal>
-    ensures { MatchOption result (IsUnusedKey store.now.network (marks_of dirty.now.items) key.now) (IsCleanHolder store.now.network dirty.now.items key.now) }
-{
-    for n in 0..store.numbers() {
-        if let Some(signal) = clean_holder(store, dirty, n, key) {
-            return Some(signal);
-        }
-    }
-    None
-}
-
 /// Whether the gate of the key and the phase stands at the number.
 fn stands_at(store: &Store, n: Node, key: &Key, phase: bool) -> bool
     ensures { IsTrue result ↔ GateAt store.now.network n.0 (keyed_gate key.now phase) }
@@ -72,63 +50,65 @@ fn stands_at(store: &Store, n: Node, key: &Key, phase: bool) -> bool
 /// Merges a dirty gate into the signal that its normal form is, or into the clean gate of its key.
 fn merge<G: Gates>(
     store: &mut Store,
-    dirty: &mut Vec<bool>,
+    keys: &mut Keys,
     views: &mut Vec<Option<Box<dyn View>>>,
     visits: &mut Vec<u64>,
     numbers: u32,
     redirection: Redirection,
 )
-    requires begun { IsBegun G.KIND G.form store.old.network dirty.old.items }
-    requires dirty { marks_of dirty.old.items redirection.from.0 ≡ true }
+    requires begun { IsBegun G.KIND G.form store.old.network keys.old.dirty.items }
+    requires dirty { marks_of keys.old.dirty.items redirection.from.0 ≡ true }
     requires merges { (g : GateValue) × GateAt store.old.network redirection.from.0 g × CanMerge G.form store.old.network g redirection.to }
     requires live { IsLive store.old.network redirection.to.node.0 }
     requires apart { redirection.to.node.0 ≢ redirection.from.0 }
-    requires gates { OnlyGates store.old.network dirty.old.items }
+    requires gates { OnlyGates store.old.network keys.old.dirty.items }
     requires room { StoreHasRoom store.old numbers }
-    requires long { numbers ≤ length dirty.old.items }
+    requires indexed { IsIndexed store.old.network keys.old numbers }
     requires fit { EachSlot (Fits spec_of kept room store.old.network numbers) views.old.items }
-    ensures goes_on { GoesOn G.KIND G.form store.old.network dirty.old.items store.new.network dirty.new.items }
-    ensures gates { OnlyGates store.new.network dirty.new.items }
-    ensures less { left store.new.network dirty.new.items < left store.old.network dirty.old.items }
+    ensures goes_on { GoesOn G.KIND G.form store.old.network keys.old.dirty.items store.new.network keys.new.dirty.items }
+    ensures gates { OnlyGates store.new.network keys.new.dirty.items }
+    ensures less { left store.new.network keys.new.dirty.items < left store.old.network keys.old.dirty.items }
     ensures room { StoreHasRoom store.new numbers }
-    ensures long { length dirty.new.items ≡ length dirty.old.items }
+    ensures indexed { IsIndexed store.new.network keys.new numbers }
+    ensures long { length keys.new.dirty.items ≡ length keys.old.dirty.items }
     ensures fit { EachSlot (Fits spec_of kept room store.new.network numbers) views.new.items }
     ensures kept { SlotsKept (Kept kind_of spec_of room) views.old.items views.new.items }
 {
     let _live = store.live_count();
-    dirty[redirection.from.0 as usize] = false;
-    replace(store, dirty, views, visits, numbers, redirection);
+    replace(store, keys, views, visits, numbers, redirection);
 }
 
 /// Sets a dirty gate to its normal form, whose key no clean gate has, and tells the views.
 fn settle<G: Gates>(
     store: &mut Store,
-    dirty: &mut Vec<bool>,
+    keys: &mut Keys,
     views: &mut Vec<Option<Box<dyn View>>>,
     visits: &mut Vec<u64>,
     numbers: u32,
     n: Node,
-    gate: Gate,
+    key: Key,
+    phase: bool,
 )
-    requires begun { IsBegun G.KIND G.form store.old.network dirty.old.items }
-    requires dirty { marks_of dirty.old.items n.0 ≡ true }
-    requires form { (g : GateValue) × GateAt store.old.network n.0 g × (G.form g ≡ forms.Gate (key_of gate) gate.phase) }
-    requires unused { IsUnusedKey store.old.network (marks_of dirty.old.items) (key_of gate) }
-    requires gates { OnlyGates store.old.network dirty.old.items }
+    requires begun { IsBegun G.KIND G.form store.old.network keys.old.dirty.items }
+    requires dirty { marks_of keys.old.dirty.items n.0 ≡ true }
+    requires form { (g : GateValue) × GateAt store.old.network n.0 g × (G.form g ≡ forms.Gate key phase) }
+    requires unused { IsUnusedKey store.old.network (marks_of keys.old.dirty.items) key }
+    requires gates { OnlyGates store.old.network keys.old.dirty.items }
     requires room { StoreHasRoom store.old numbers }
-    requires long { numbers ≤ length dirty.old.items }
+    requires indexed { IsIndexed store.old.network keys.old numbers }
     requires fit { EachSlot (Fits spec_of kept room store.old.network numbers) views.old.items }
-    ensures goes_on { GoesOn G.KIND G.form store.old.network dirty.old.items store.new.network dirty.new.items }
-    ensures gates { OnlyGates store.new.network dirty.new.items }
-    ensures less { left store.new.network dirty.new.items < left store.old.network dirty.old.items }
+    ensures goes_on { GoesOn G.KIND G.form store.old.network keys.old.dirty.items store.new.network keys.new.dirty.items }
+    ensures gates { OnlyGates store.new.network keys.new.dirty.items }
+    ensures less { left store.new.network keys.new.dirty.items < left store.old.network keys.old.dirty.items }
     ensures room { StoreHasRoom store.new numbers }
-    ensures long { length dirty.new.items ≡ length dirty.old.items }
+    ensures indexed { IsIndexed store.new.network keys.new numbers }
+    ensures long { length keys.new.dirty.items ≡ length keys.old.dirty.items }
     ensures fit { EachSlot (Fits spec_of kept room store.new.network numbers) views.new.items }
     ensures kept { SlotsKept (Kept kind_of spec_of room) views.old.items views.new.items }
 {
     let _live = store.live_count();
-    dirty[n.0 as usize] = false;
-    let old = store.set_gate(n, gate);
+    let old = store.set_gate(n, gate_of(&key, phase));
+    keys.enter(key, n, phase);
     tell(views, visits, store, &Event::Modified(n, old), numbers);
 }
 
@@ -136,23 +116,24 @@ fn settle<G: Gates>(
 /// normal form where it differs.
 fn take_dirty<G: Gates>(
     store: &mut Store,
-    dirty: &mut Vec<bool>,
+    keys: &mut Keys,
     views: &mut Vec<Option<Box<dyn View>>>,
     visits: &mut Vec<u64>,
     numbers: u32,
     n: Node,
 )
-    requires begun { IsBegun G.KIND G.form store.old.network dirty.old.items }
-    requires dirty { marks_of dirty.old.items n.0 ≡ true }
-    requires gates { OnlyGates store.old.network dirty.old.items }
+    requires begun { IsBegun G.KIND G.form store.old.network keys.old.dirty.items }
+    requires dirty { marks_of keys.old.dirty.items n.0 ≡ true }
+    requires gates { OnlyGates store.old.network keys.old.dirty.items }
     requires room { StoreHasRoom store.old numbers }
-    requires long { numbers ≤ length dirty.old.items }
+    requires indexed { IsIndexed store.old.network keys.old numbers }
     requires fit { EachSlot (Fits spec_of kept room store.old.network numbers) views.old.items }
-    ensures goes_on { GoesOn G.KIND G.form store.old.network dirty.old.items store.new.network dirty.new.items }
-    ensures gates { OnlyGates store.new.network dirty.new.items }
-    ensures less { left store.new.network dirty.new.items < left store.old.network dirty.old.items }
+    ensures goes_on { GoesOn G.KIND G.form store.old.network keys.old.dirty.items store.new.network keys.new.dirty.items }
+    ensures gates { OnlyGates store.new.network keys.new.dirty.items }
+    ensures less { left store.new.network keys.new.dirty.items < left store.old.network keys.old.dirty.items }
     ensures room { StoreHasRoom store.new numbers }
-    ensures long { length dirty.new.items ≡ length dirty.old.items }
+    ensures indexed { IsIndexed store.new.network keys.new numbers }
+    ensures long { length keys.new.dirty.items ≡ length keys.old.dirty.items }
     ensures fit { EachSlot (Fits spec_of kept room store.new.network numbers) views.new.items }
     ensures kept { SlotsKept (Kept kind_of spec_of room) views.old.items views.new.items }
 {
@@ -162,34 +143,27 @@ fn take_dirty<G: Gates>(
             Normal::Is(to) => {
                 merge::<G>(
                     store,
-                    dirty,
+                    keys,
                     views,
                     visits,
                     numbers,
                     Redirection { from: n, to },
                 );
             }
-            Normal::Gate(key, phase) => match find_clean(store, dirty, &key) {
+            Normal::Gate(key, phase) => match keys.find(&key) {
                 Some(found) => {
                     let to = found.flipped(phase);
                     merge::<G>(
                         store,
-                        dirty,
+                        keys,
                         views,
                         visits,
                         numbers,
                         Redirection { from: n, to },
                     );
                 }
-                None if stands_at(store, n, &key, phase) => dirty[n.0 as usize] = false,
-                None => {
-                    let gate = Gate {
-                        op: key.op,
-                        phase,
-                        fanins: key.fanins,
-                    };
-                    settle::<G>(store, dirty, views, visits, numbers, n, gate);
-                }
+                None if stands_at(store, n, &key, phase) => keys.enter(key, n, phase),
+                None => settle::<G>(store, keys, views, visits, numbers, n, key, phase),
             },
         },
         None => unreachable!(),
@@ -199,24 +173,25 @@ fn take_dirty<G: Gates>(
 /// Takes dirty gates until none is dirty.
 pub(crate) fn cascade<G: Gates>(
     store: &mut Store,
-    dirty: &mut Vec<bool>,
+    keys: &mut Keys,
     views: &mut Vec<Option<Box<dyn View>>>,
     visits: &mut Vec<u64>,
     numbers: u32,
 )
-    requires begun { IsBegun G.KIND G.form store.old.network dirty.old.items }
-    requires gates { OnlyGates store.old.network dirty.old.items }
+    requires begun { IsBegun G.KIND G.form store.old.network keys.old.dirty.items }
+    requires gates { OnlyGates store.old.network keys.old.dirty.items }
     requires room { StoreHasRoom store.old numbers }
-    requires long { numbers ≤ length dirty.old.items }
+    requires indexed { IsIndexed store.old.network keys.old numbers }
     requires fit { EachSlot (Fits spec_of kept room store.old.network numbers) views.old.items }
-    ensures goes_on { GoesOn G.KIND G.form store.old.network dirty.old.items store.new.network dirty.new.items }
-    ensures clean { (n : ℕ) → marks_of dirty.new.items n ≡ false }
+    ensures goes_on { GoesOn G.KIND G.form store.old.network keys.old.dirty.items store.new.network keys.new.dirty.items }
+    ensures clean { (n : ℕ) → marks_of keys.new.dirty.items n ≡ false }
     ensures room { StoreHasRoom store.new numbers }
-    ensures long { length dirty.new.items ≡ length dirty.old.items }
+    ensures indexed { IsIndexed store.new.network keys.new numbers }
+    ensures long { length keys.new.dirty.items ≡ length keys.old.dirty.items }
     ensures fit { EachSlot (Fits spec_of kept room store.new.network numbers) views.new.items }
     ensures kept { SlotsKept (Kept kind_of spec_of room) views.old.items views.new.items }
 {
-    'gates: while let Some(n) = first_dirty(store, dirty) {
-        take_dirty::<G>(store, dirty, views, visits, numbers, n);
+    'gates: while let Some(n) = first_dirty(store, &keys.dirty) {
+        take_dirty::<G>(store, keys, views, visits, numbers, n);
     }
 }

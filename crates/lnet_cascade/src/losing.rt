@@ -4,6 +4,7 @@ ghost use Rattle.std.specs.Prelude.{◌≡◌, ◌≤◌, ◌<◌, ◌↔◌, �
 ghost use Rattle.lnet_model.specs.Networks.{live_count};
 ghost use Rattle.lnet_model.specs.Changes.{without};
 ghost use Rattle.lnet_model.specs.Dags.{AreBelow};
+ghost use Rattle.lnet_hashed.specs.Indexed.{AllClean, IsIndexed};
 ghost use Rattle.lnet_hashed.specs.Views.{EachSlot, Fits, Kept, SlotsKept};
 ghost use Rattle.lnet_cascade.specs.Losing.{AreNoted, IsLost, Drops};
 ghost use Rattle.lnet_cascade.specs.Rooms.{StoreHasRoom};
@@ -11,6 +12,7 @@ ghost use Rattle.lnet_cascade.specs.Rooms.{StoreHasRoom};
 use crate::cascading::is_marked;
 use crate::redirecting::remove;
 use lnet_gates::Node;
+use lnet_hashed::Keys;
 use lnet_store::{Store, View};
 
 /// Marks the numbers below the end that are named.
@@ -27,6 +29,7 @@ pub(crate) fn note_named(store: &Store, named: &mut Vec<bool>, end: u32)
 /// Removes the gate at the number where it was named and isn't any more, and tells the views. Whether it did.
 fn drop_lost(
     store: &mut Store,
+    keys: &mut Keys,
     named: &Vec<bool>,
     views: &mut Vec<Option<Box<dyn View>>>,
     visits: &mut Vec<u64>,
@@ -34,17 +37,21 @@ fn drop_lost(
     n: Node,
 ) -> bool
     requires room { StoreHasRoom store.old numbers }
+    requires indexed { IsIndexed store.old.network keys.old numbers }
+    requires clean { AllClean keys.old }
     requires fit { EachSlot (Fits spec_of kept room store.old.network numbers) views.old.items }
     ensures answer { IsTrue result ↔ IsLost store.old.network named.now.items n.0 }
     ensures network { store.new.network ≡ cond result (without store.old.network n.0) store.old.network }
     ensures room { StoreHasRoom store.new numbers }
+    ensures indexed { IsIndexed store.new.network keys.new numbers }
+    ensures clean { AllClean keys.new }
     ensures fit { EachSlot (Fits spec_of kept room store.new.network numbers) views.new.items }
     ensures kept { SlotsKept (Kept kind_of spec_of room) views.old.items views.new.items }
 {
     if !is_marked(named, n.0) || store.gate_of(n).is_none() || store.refs(n) > 0 {
         return false;
     }
-    remove(store, views, visits, numbers, n);
+    remove(store, keys, views, visits, numbers, n);
     true
 }
 
@@ -52,6 +59,7 @@ fn drop_lost(
 /// names once the ones above went. Whether it removed one.
 fn pass(
     store: &mut Store,
+    keys: &mut Keys,
     named: &Vec<bool>,
     views: &mut Vec<Option<Box<dyn View>>>,
     visits: &mut Vec<u64>,
@@ -60,19 +68,23 @@ fn pass(
 ) -> bool
     requires below { AreBelow store.old.network end }
     requires room { StoreHasRoom store.old numbers }
+    requires indexed { IsIndexed store.old.network keys.old numbers }
+    requires clean { AllClean keys.old }
     requires fit { EachSlot (Fits spec_of kept room store.old.network numbers) views.old.items }
     ensures drops { Drops end named.now.items store.old.network store.new.network }
     ensures fewer { IsTrue result → live_count store.new.network < live_count store.old.network }
     ensures none { result ≡ false → (n : ℕ) → IsLost store.new.network named.now.items n → ⊥ }
     ensures below { AreBelow store.new.network end }
     ensures room { StoreHasRoom store.new numbers }
+    ensures indexed { IsIndexed store.new.network keys.new numbers }
+    ensures clean { AllClean keys.new }
     ensures fit { EachSlot (Fits spec_of kept room store.new.network numbers) views.new.items }
     ensures kept { SlotsKept (Kept kind_of spec_of room) views.old.items views.new.items }
 {
     let _live = store.live_count();
     let mut removed = false;
     for n in (0..end).rev() {
-        if drop_lost(store, named, views, visits, numbers, Node(n)) {
+        if drop_lost(store, keys, named, views, visits, numbers, Node(n)) {
             removed = true;
         }
     }
@@ -83,6 +95,7 @@ fn pass(
 /// one removes nothing.
 pub(crate) fn sweep_lost(
     store: &mut Store,
+    keys: &mut Keys,
     named: &Vec<bool>,
     views: &mut Vec<Option<Box<dyn View>>>,
     visits: &mut Vec<u64>,
@@ -91,12 +104,16 @@ pub(crate) fn sweep_lost(
 )
     requires below { AreBelow store.old.network end }
     requires room { StoreHasRoom store.old numbers }
+    requires indexed { IsIndexed store.old.network keys.old numbers }
+    requires clean { AllClean keys.old }
     requires fit { EachSlot (Fits spec_of kept room store.old.network numbers) views.old.items }
     ensures drops { Drops end named.now.items store.old.network store.new.network }
     ensures none { (n : ℕ) → IsLost store.new.network named.now.items n → ⊥ }
     ensures room { StoreHasRoom store.new numbers }
+    ensures indexed { IsIndexed store.new.network keys.new numbers }
+    ensures clean { AllClean keys.new }
     ensures fit { EachSlot (Fits spec_of kept room store.new.network numbers) views.new.items }
     ensures kept { SlotsKept (Kept kind_of spec_of room) views.old.items views.new.items }
 {
-    'passes: while pass(store, named, views, visits, numbers, end) {}
+    'passes: while pass(store, keys, named, views, visits, numbers, end) {}
 }

@@ -1,12 +1,13 @@
 //! Redirecting references from a gate to a signal, gate by gate, and the removal of the gate.
 
-ghost use Rattle.std.specs.Prelude.{◌≡◌, ◌≤◌, ◌<◌, ◌+◌, ◌↔◌, ℕ, IsTrue, length, map};
+ghost use Rattle.std.specs.Prelude.{◌≡◌, ◌≤◌, ◌<◌, ◌+◌, ◌↔◌, ℕ, IsTrue, false, length, map, slice_set};
 ghost use Rattle.lnet_model.specs.Networks.{IsLive, live_count, entry_at};
 ghost use Rattle.lnet_model.specs.Along.{In, Depends, fanin_nodes, nodes_read};
 ghost use Rattle.lnet_model.specs.Changes.{IsGateAt, without};
 ghost use Rattle.lnet_model.specs.Fanouts.{references};
 ghost use Rattle.lnet_model.specs.Dags.{numbers_of};
 ghost use Rattle.lnet_substitution.specs.Replaced.{redirected, replaced};
+ghost use Rattle.lnet_hashed.specs.Indexed.{IsIndexed};
 ghost use Rattle.lnet_hashed.specs.Views.{EachSlot, Fits, Kept, SlotsKept};
 ghost use Rattle.lnet_cascade.specs.Marks.{MarkedMore};
 ghost use Rattle.lnet_cascade.specs.Redirections.{RedirectedAt, RedirectedBelow, outputs_redirected};
@@ -14,7 +15,7 @@ ghost use Rattle.lnet_cascade.specs.Rooms.{StoreHasRoom};
 
 use arrayvec::ArrayVec;
 use lnet_gates::{Gate, Node, Signal};
-use lnet_hashed::tell;
+use lnet_hashed::{Keys, tell};
 use lnet_store::{Event, Store, View};
 
 /// Each reference to a node is to read a signal in its place.
@@ -79,10 +80,10 @@ fn is_read(signals: &[Signal], node: Node) -> bool
     false
 }
 
-/// Redirects the references of the gate at a number, marks it as dirty, and tells the views.
+/// Redirects the references of the gate at a number, lets it be dirty, and tells the views.
 fn redirect_at(
     store: &mut Store,
-    dirty: &mut Vec<bool>,
+    keys: &mut Keys,
     views: &mut Vec<Option<Box<dyn View>>>,
     visits: &mut Vec<u64>,
     numbers: u32,
@@ -92,10 +93,11 @@ fn redirect_at(
     requires live { IsLive store.old.network redirection.to.node.0 }
     requires free { Depends store.old.network redirection.to redirection.from.0 → ⊥ }
     requires room { StoreHasRoom store.old numbers }
-    requires long { numbers ≤ length dirty.old.items }
+    requires indexed { IsIndexed store.old.network keys.old numbers }
     requires fit { EachSlot (Fits spec_of kept room store.old.network numbers) views.old.items }
     ensures redirected { RedirectedAt store.old.network redirection.from.0 redirection.to n store.new.network }
-    ensures dirty { MarkedMore (λ m. (m ≡ n) × In redirection.from.0 (fanin_nodes (entry_at store.old.network m))) dirty.old.items dirty.new.items }
+    ensures dirty { MarkedMore (λ m. (m ≡ n) × In redirection.from.0 (fanin_nodes (entry_at store.old.network m))) keys.old.dirty.items keys.new.dirty.items }
+    ensures indexed { IsIndexed store.new.network keys.new numbers }
     ensures room { StoreHasRoom store.new numbers }
     ensures fit { EachSlot (Fits spec_of kept room store.new.network numbers) views.new.items }
     ensures kept { SlotsKept (Kept kind_of spec_of room) views.old.items views.new.items }
@@ -105,7 +107,7 @@ fn redirect_at(
         if redirection.concerns(gate) {
             let new = redirection.of_gate(gate);
             let old = store.set_gate(Node(n), new);
-            dirty[n as usize] = true;
+            keys.soil(Node(n));
             tell(
                 views,
                 visits,
@@ -120,7 +122,7 @@ fn redirect_at(
 /// Redirects the references of each gate, marks those that had one as dirty, and tells the views of each.
 fn redirect_gates(
     store: &mut Store,
-    dirty: &mut Vec<bool>,
+    keys: &mut Keys,
     views: &mut Vec<Option<Box<dyn View>>>,
     visits: &mut Vec<u64>,
     numbers: u32,
@@ -129,17 +131,18 @@ fn redirect_gates(
     requires live { IsLive store.old.network redirection.to.node.0 }
     requires free { Depends store.old.network redirection.to redirection.from.0 → ⊥ }
     requires room { StoreHasRoom store.old numbers }
-    requires long { numbers ≤ length dirty.old.items }
+    requires indexed { IsIndexed store.old.network keys.old numbers }
     requires fit { EachSlot (Fits spec_of kept room store.old.network numbers) views.old.items }
     ensures redirected { RedirectedBelow store.old.network redirection.from.0 redirection.to (numbers_of store.old.network) store.new.network }
-    ensures dirty { MarkedMore (λ m. In redirection.from.0 (fanin_nodes (entry_at store.old.network m))) dirty.old.items dirty.new.items }
+    ensures dirty { MarkedMore (λ m. In redirection.from.0 (fanin_nodes (entry_at store.old.network m))) keys.old.dirty.items keys.new.dirty.items }
+    ensures indexed { IsIndexed store.new.network keys.new numbers }
     ensures room { StoreHasRoom store.new numbers }
     ensures fit { EachSlot (Fits spec_of kept room store.new.network numbers) views.new.items }
     ensures kept { SlotsKept (Kept kind_of spec_of room) views.old.items views.new.items }
 {
     let end = store.numbers();
     for n in 0..end {
-        redirect_at(store, dirty, views, visits, numbers, n, redirection);
+        redirect_at(store, keys, views, visits, numbers, n, redirection);
     }
 }
 
@@ -159,6 +162,7 @@ fn redirect_outputs(store: &mut Store, redirection: Redirection)
 /// Removes a gate that nothing names, and tells the views.
 pub(crate) fn remove(
     store: &mut Store,
+    keys: &mut Keys,
     views: &mut Vec<Option<Box<dyn View>>>,
     visits: &mut Vec<u64>,
     numbers: u32,
@@ -167,8 +171,11 @@ pub(crate) fn remove(
     requires gate { IsGateAt store.old.network n.0 }
     requires free { references store.old.network n.0 ≡ 0 }
     requires room { StoreHasRoom store.old numbers }
+    requires indexed { IsIndexed store.old.network keys.old numbers }
     requires fit { EachSlot (Fits spec_of kept room store.old.network numbers) views.old.items }
     ensures network { store.new.network ≡ without store.old.network n.0 }
+    ensures dirty { keys.new.dirty.items ≡ slice_set keys.old.dirty.items n.0 false }
+    ensures indexed { IsIndexed store.new.network keys.new numbers }
     ensures count { live_count store.new.network + 1 ≡ live_count store.old.network }
     ensures room { StoreHasRoom store.new numbers }
     ensures fit { EachSlot (Fits spec_of kept room store.new.network numbers) views.new.items }
@@ -176,6 +183,7 @@ pub(crate) fn remove(
 {
     let _live = store.live_count();
     let gate = store.remove(n);
+    keys.forget(n);
     tell(views, visits, store, &Event::Deleted(n, gate), numbers);
 }
 
@@ -183,7 +191,7 @@ pub(crate) fn remove(
 /// views are told each single change.
 pub(crate) fn replace(
     store: &mut Store,
-    dirty: &mut Vec<bool>,
+    keys: &mut Keys,
     views: &mut Vec<Option<Box<dyn View>>>,
     visits: &mut Vec<u64>,
     numbers: u32,
@@ -193,17 +201,18 @@ pub(crate) fn replace(
     requires live { IsLive store.old.network redirection.to.node.0 }
     requires free { Depends store.old.network redirection.to redirection.from.0 → ⊥ }
     requires room { StoreHasRoom store.old numbers }
-    requires long { numbers ≤ length dirty.old.items }
+    requires indexed { IsIndexed store.old.network keys.old numbers }
     requires fit { EachSlot (Fits spec_of kept room store.old.network numbers) views.old.items }
     ensures network { store.new.network ≡ replaced store.old.network redirection.from.0 redirection.to }
-    ensures dirty { MarkedMore (λ m. In redirection.from.0 (fanin_nodes (entry_at store.old.network m))) dirty.old.items dirty.new.items }
+    ensures dirty { MarkedMore (λ m. In redirection.from.0 (fanin_nodes (entry_at store.old.network m))) (slice_set keys.old.dirty.items redirection.from.0 false) keys.new.dirty.items }
+    ensures indexed { IsIndexed store.new.network keys.new numbers }
     ensures count { live_count store.new.network + 1 ≡ live_count store.old.network }
     ensures room { StoreHasRoom store.new numbers }
     ensures fit { EachSlot (Fits spec_of kept room store.new.network numbers) views.new.items }
     ensures kept { SlotsKept (Kept kind_of spec_of room) views.old.items views.new.items }
 {
     let _first = store.numbers();
-    redirect_gates(store, dirty, views, visits, numbers, redirection);
+    redirect_gates(store, keys, views, visits, numbers, redirection);
     redirect_outputs(store, redirection);
-    remove(store, views, visits, numbers, redirection.from);
+    remove(store, keys, views, visits, numbers, redirection.from);
 }

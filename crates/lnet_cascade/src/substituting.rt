@@ -1,12 +1,12 @@
 //! Substitution of a gate by a signal.
 
-ghost use Rattle.std.specs.Prelude.{◌≡◌};
+ghost use Rattle.std.specs.Prelude.{◌≡◌, ◌≤◌, length};
 ghost use Rattle.lnet_model.specs.Networks.{IsLive};
 ghost use Rattle.lnet_model.specs.Along.{Depends};
 ghost use Rattle.lnet_model.specs.Changes.{IsGateAt};
 ghost use Rattle.lnet_hashed.specs.Strashed.{IsStrashed};
 ghost use Rattle.lnet_hashed.specs.Views.{EachSlot, Fits, Kept, SlotsKept};
-ghost use Rattle.lnet_hashed.specs.Marked.{AreMarks};
+ghost use Rattle.lnet_hashed.specs.Indexed.{AllClean, IsIndexed};
 ghost use Rattle.lnet_hashed.specs.Rooms.{HasRoom};
 ghost use Rattle.lnet_substitution.specs.Substitutions.{CanSubstitute, Substitutes};
 ghost use Rattle.lnet_cascade.specs.Rooms.{StoreHasRoom};
@@ -15,35 +15,40 @@ use crate::cascading::cascade;
 use crate::losing::{note_named, sweep_lost};
 use crate::redirecting::{Redirection, replace};
 use lnet_gates::{Gates, Node, Signal};
-use lnet_hashed::{Hashed, Marks};
+use lnet_hashed::{Hashed, Keys};
 use lnet_store::{Store, View};
 
 /// Lets a gate give way to a signal over the parts of a hashed store: the gate is replaced, dirty gates are merged until none is
 /// left, and the gates that lost their last reference go.
 fn substitute_in<G: Gates>(
     store: &mut Store,
-    marks: &mut Marks,
+    keys: &mut Keys,
+    named: &mut Vec<bool>,
     views: &mut Vec<Option<Box<dyn View>>>,
     visits: &mut Vec<u64>,
     numbers: u32,
     redirection: Redirection,
 )
     requires can { CanSubstitute G.KIND G.form store.old.network redirection.from.0 redirection.to }
-    requires marks { AreMarks marks.old numbers }
+    requires indexed { IsIndexed store.old.network keys.old numbers }
+    requires clean { AllClean keys.old }
+    requires named { numbers ≤ length named.old.items }
     requires room { StoreHasRoom store.old numbers }
     requires fit { EachSlot (Fits spec_of kept room store.old.network numbers) views.old.items }
     ensures substitutes { Substitutes G.KIND G.form store.old.network redirection.from.0 redirection.to store.new.network }
-    ensures marks { AreMarks marks.new numbers }
+    ensures indexed { IsIndexed store.new.network keys.new numbers }
+    ensures clean { AllClean keys.new }
+    ensures named { length named.new.items ≡ length named.old.items }
     ensures room { StoreHasRoom store.new numbers }
     ensures fit { EachSlot (Fits spec_of kept room store.new.network numbers) views.new.items }
     ensures kept { SlotsKept (Kept kind_of spec_of room) views.old.items views.new.items }
 {
     let end = store.numbers();
-    note_named(store, &mut marks.named, end);
-    replace(store, &mut marks.dirty, views, visits, numbers, redirection);
-    cascade::<G>(store, &mut marks.dirty, views, visits, numbers);
+    note_named(store, named, end);
+    replace(store, keys, views, visits, numbers, redirection);
+    cascade::<G>(store, keys, views, visits, numbers);
     let _merged = store.live_count();
-    sweep_lost(store, &marks.named, views, visits, numbers, end);
+    sweep_lost(store, keys, named, views, visits, numbers, end);
 }
 
 /// Replaces each reference to a gate by a signal, complement included, and lets gates of one structure be one.
@@ -55,8 +60,8 @@ fn substitute_in<G: Gates>(
 /// `Modified` for all slots of a gate that change at once, one `Deleted` for each gate that goes. A change of an output is no
 /// event.
 ///
-/// It takes no memory, and can't be refused. Each gate that goes or that takes another form costs a look at each number; the
-/// rest is what the views take.
+/// It takes no memory, and can't be refused. Each gate that goes or that takes another form costs a look at each number, for its
+/// parents and for the next dirty gate; a key is found in constant time on average. The rest is what the views take.
 pub fn substitute<G: Gates>(
     hashed: &mut Hashed,
     views: &mut Vec<Option<Box<dyn View>>>,
@@ -84,7 +89,8 @@ pub fn substitute<G: Gates>(
     };
     substitute_in::<G>(
         &mut hashed.store,
-        &mut hashed.marks,
+        &mut hashed.keys,
+        &mut hashed.named,
         views,
         visits,
         hashed.room,

@@ -2,7 +2,8 @@ pub mod Found
 pub mod Adding
 pub mod Places
 pub mod Newly
-pub mod Keys
+pub mod KeyLemmas
+pub mod Indexing
 pub mod Strashing
 pub mod Extensions
 pub mod PlacedValues

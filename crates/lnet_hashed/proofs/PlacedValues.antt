@@ -21,7 +21,7 @@ use Rattle.lnet_model.proofs.Stored.{stored-add}
 use Rattle.lnet_hashed.specs.Strashed.{found, least_free, Placed, placed, placed_form, placed_key, newly_placed}
 use Rattle.lnet_hashed.proofs.Adding.{count-added, least-free-is, least-low}
 use Rattle.lnet_hashed.proofs.Places.{named-read, first-live, key-live}
-use Rattle.lnet_hashed.proofs.Keys.{IsFound, found-key}
+use Rattle.lnet_hashed.proofs.KeyLemmas.{IsFound, found-key}
 use Rattle.lnet_hashed.proofs.Extensions.{Extends, extends-self, extends-signals, extends-added, value-first}
 
 -- a network that a store can keep, which extends the one before, and a live signal of it with this value under each assignment

@@ -1,10 +1,12 @@
 -- Networks of the same nodes: what views keep doesn't depend on the inputs and outputs.
-use Rattle.std.proofs.Common.{◌≡◌, ℕ, ◌+◌, ◌<◌, List, [], ◌∷◌, ◌++◌, length, IsSome, Option, None, Some, IfSome, option_map, slice_index_or, refl, sym, ap, subst, ◌∙◌}
-use Rattle.lnet_model.specs.Networks.{NetworkValue, Input, IsLive, entry_at, live_count}
+use Rattle.std.proofs.Common.{◌≡◌, ℕ, ◌+◌, ◌<◌, List, [], ◌∷◌, ◌++◌, length, IsSome, Option, None, Some, IfSome, option_map, slice_index_or, refl, sym, ap, subst, ◌∙◌, inl, inr}
+use Rattle.std.proofs.lemmas.Bool.Decides.{eqb_tells}
+use Rattle.lnet_model.specs.Networks.{NetworkValue, Input, IsLive, entry_at, gate_in, gate_at, live_count}
 use Rattle.lnet_model.specs.Along.{over}
 use Rattle.lnet_model.specs.Fanouts.{fan}
 use Rattle.lnet_model.specs.Dags.{IsDag, AreBelow}
 use Rattle.lnet_model.specs.Changes.{with_entry, IsLeastFree}
+use Rattle.lnet_model.proofs.Changes.{with_entry-here, with_entry-apart}
 use Rattle.lnet_store.specs.StoreValues.{with_input}
 use Rattle.lnet_hashed.proofs.Adding.{added-live, added-below, added-count}
 use Rattle.lnet_model.specs.Answers.{Answer, InStep, from_scratch}
@@ -72,3 +74,13 @@ pub input-count : (N M : NetworkValue) (n : ℕ) → M ≡ with_input N n → Is
 input-count N M n is least =
     let W : NetworkValue = with_entry N n (Input (length N.inputs)) in
     ap live_count (is ∙ input-is N n) ∙ count-same W (N.inputs ++ n ∷ []) ∙ added-count N W n _ refl least
+
+-- an input is no gate
+pub input-gates : (N M : NetworkValue) (n : ℕ) → M ≡ with_input N n → entry_at N n ≡ None → (m : ℕ) → gate_at M m ≡ gate_at N m
+input-gates N M n is free m =
+    let W : NetworkValue = with_entry N n (Input (length N.inputs)) in
+    let entries : entry_at M m ≡ entry_at W m = ap (λ X. entry_at X m) (is ∙ input-is N n) ∙ entry-same W (N.inputs ++ n ∷ []) m in
+    elim (eqb_tells m n) as (λ _. gate_at M m ≡ gate_at N m) [
+      | inl p ↦ ap gate_in (entries ∙ ap (entry_at W) p.1 ∙ with_entry-here N n (Input (length N.inputs))) ∙ sym (ap gate_in (ap (entry_at N) p.1 ∙ free))
+      | inr p ↦ ap gate_in (entries ∙ with_entry-apart N n (Input (length N.inputs)) m p.1)
+    ]

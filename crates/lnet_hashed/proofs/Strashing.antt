@@ -17,7 +17,7 @@ use Rattle.lnet_model.specs.Changes.{GateAt, with_entry, without}
 use Rattle.lnet_model.proofs.Changes.{with_entry-here, with_entry-apart, without-here, without-apart}
 use Rattle.lnet_store.specs.StoreValues.{with_input, with_new_output, with_output}
 use Rattle.lnet_hashed.specs.Strashed.{key_of, IsStrashed, found, least_free, placed, placed_form, placed_key}
-use Rattle.lnet_hashed.proofs.Keys.{found-none}
+use Rattle.lnet_hashed.proofs.KeyLemmas.{found-none}
 
 -- ---- with no new gate
 

@@ -1,7 +1,7 @@
 pub mod Strashed
 pub mod Laid
 pub mod Views
-pub mod Marked
+pub mod Indexed
 pub mod Rooms
 pub mod Undoing
 pub mod Swept

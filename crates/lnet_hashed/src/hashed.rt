@@ -14,7 +14,8 @@ ghost use Rattle.lnet_hashed.specs.Strashed.{same_op, same_signals, same_key, ke
 ghost use Rattle.lnet_hashed.specs.Views.{EachSlot, Fits, Kept, SlotKept, SlotsKept};
 ghost use Rattle.lnet_hashed.specs.Rooms.{HasRoom};
 
-use crate::marks::Marks;
+use crate::keys::{Keys, lengthen};
+use crate::making::gate_of;
 use crate::telling::{reserve_all, tell};
 use lnet_gates::{Gate, Key, Node, Op, Signal};
 use lnet_store::{AddError, Event, Store, View};
@@ -23,14 +24,20 @@ use std::alloc::{AllocError, Global};
 /// How many numbers a network can have.
 pub(crate) const LIMIT: u32 = 1048576;
 
-/// A store, the marks of its numbers, and for how many numbers, from 0, the store, the marks and each of the views have memory.
+/// A store, the keys of its gates, and for how many numbers, from 0, the store, the keys, the marks and each of the views have
+/// memory.
 ///
-/// Each call here keeps `HasRoom`: the network's numbers are below the room, the store has memory for so many, and there are
-/// marks for each.
+/// Each call here keeps `HasRoom`: the network's numbers are below the room, the store has memory for so many, there are marks
+/// for each, and each gate stands under its key.
 #[derive(Drop)]
 pub struct Hashed {
+    /// The network.
     pub store: Store,
-    pub marks: Marks,
+    /// Which gate has a key.
+    pub keys: Keys,
+    /// By number whether it had a reference when the last substitution began.
+    pub named: Vec<bool>,
+    /// For how many numbers there is memory.
     pub room: u32,
 }
 
@@ -42,11 +49,14 @@ impl Hashed {
     {
         let store = Store::new(alloc)?;
         let _live = store.live_count();
-        let mut marks = Marks::new(alloc);
-        marks.reserve(1)?;
+        let mut keys = Keys::new(alloc)?;
+        keys.reserve(1)?;
+        let mut named = Vec::new(alloc);
+        lengthen(&mut named, 1)?;
         Ok(Hashed {
             store,
-            marks,
+            keys,
+            named,
             room: 1,
         })
     }
@@ -100,20 +110,16 @@ pub fn held(store: &Store, n: u32, key: &Key) -> Option<Signal>
     }
 }
 
-/// The signal of the gate with the key, by a look at each number; `None` exactly where no gate has it.
-pub fn find(store: &Store, key: &Key) -> Option<Signal>
-    ensures found { result ≡ found store.now.network key.now }
-    ensures live { IfSome result (λ s. IsLive store.now.network s.node.0) }
+/// The signal of the gate with the key; `None` exactly where no gate has it. Constant time on average.
+pub(crate) fn find(hashed: &Hashed, key: &Key) -> Option<Signal>
+    requires { HasRoom hashed.now }
+    ensures found { result ≡ found hashed.now.store.network key.now }
+    ensures live { IfSome result (λ s. IsLive hashed.now.store.network s.node.0) }
 {
-    for n in 0..store.numbers() {
-        if let Some(signal) = held(store, n, key) {
-            return Some(signal);
-        }
-    }
-    None
+    hashed.keys.find(key)
 }
 
-/// Gets memory for `numbers` numbers in the store, in the marks and in each view.
+/// Gets memory for `numbers` numbers in the store, for keys and marks, and in each view.
 pub fn reserve(
     hashed: &mut Hashed,
     views: &mut Vec<Option<Box<dyn View>>>,
@@ -133,7 +139,8 @@ pub fn reserve(
 {
     let live = hashed.store.live_count();
     hashed.store.reserve(numbers.saturating_sub(live))?;
-    hashed.marks.reserve(numbers)?;
+    hashed.keys.reserve(numbers)?;
+    lengthen(&mut hashed.named, numbers as usize)?;
     reserve_all(views, &hashed.store, hashed.room, numbers)?;
     hashed.room = numbers;
     Ok(())
@@ -172,7 +179,7 @@ pub(crate) fn make_room(
     }
 }
 
-/// Adds a gate of the key, of phase false, under the least free number, and tells the views.
+/// Adds a gate of the key, which no gate has, of phase false, under the least free number, and tells the views.
 pub(crate) fn add_key(
     hashed: &mut Hashed,
     views: &mut Vec<Option<Box<dyn View>>>,
@@ -182,6 +189,7 @@ pub(crate) fn add_key(
     requires room { HasRoom hashed.old }
     requires live { AreLive hashed.old.store.network (nodes_read key.fanins) }
     requires arity { Takes key.op (length key.fanins) }
+    requires absent { found hashed.old.store.network key ≡ None }
     requires fit { EachSlot (Fits spec_of kept room hashed.old.store.network hashed.old.room) views.old.items }
     ensures node { IfOk result (λ n. n.0 ≡ least_free hashed.old.store.network) }
     ensures network { IfOk result (λ n. hashed.new.store.network ≡ with_entry hashed.old.store.network n.0 (IsGate (keyed_gate key false))) }
@@ -196,13 +204,10 @@ pub(crate) fn add_key(
 {
     make_room(hashed, views)?;
     let _live = hashed.store.live_count();
-    let gate = Gate {
-        op: key.op,
-        phase: false,
-        fanins: key.fanins,
-    };
+    let gate = gate_of(&key, false);
     match hashed.store.add(gate) {
         Ok(n) => {
+            hashed.keys.enter(key, n, false);
             tell(views, visits, &hashed.store, &Event::Added(n), hashed.room);
             Ok(n)
         }
@@ -229,6 +234,7 @@ pub fn remove(
 {
     let _live = hashed.store.live_count();
     let gate = hashed.store.remove(n);
+    hashed.keys.forget(n);
     tell(
         views,
         visits,

@@ -19,10 +19,10 @@ ghost use Rattle.lnet_hashed.specs.Strashed.{IsStrashed};
 ghost use Rattle.lnet_hashed.specs.Laid.{made};
 
 mod hashed;
+mod keys;
 mod laying;
 mod levels;
 mod making;
-mod marks;
 mod placing;
 mod subscribing;
 mod sweeping;
@@ -30,11 +30,11 @@ mod telling;
 #[cfg(test)]
 mod tests;
 
-pub use hashed::{Hashed, add_input, find, held, remove, reserve};
+pub use hashed::{Hashed, add_input, held, remove, reserve};
+pub use keys::Keys;
 pub use laying::lay;
 pub use levels::depth;
-pub use making::make;
-pub use marks::Marks;
+pub use making::{gate_of, make};
 pub use placing::place;
 pub use subscribing::{subscribe, unsubscribe, view, visits_of};
 pub use sweeping::sweep;

@@ -1,6 +1,7 @@
 //! Making operations of signals, by the plan of the kind.
 
 ghost use Rattle.std.specs.Prelude.{◌≡◌, ◌≤◌, ◌<◌, IfOk, OnErr, length, false, Err};
+ghost use Rattle.lnet_gates.specs.NormalLaws.{keyed_gate};
 ghost use Rattle.lnet_gates.specs.Plans.{Takes};
 ghost use Rattle.lnet_model.specs.Networks.{live_count};
 ghost use Rattle.lnet_model.specs.Along.{nodes_read};
@@ -14,7 +15,7 @@ use crate::hashed::Hashed;
 use crate::laying::lay;
 use crate::placing::place;
 use arrayvec::ArrayVec;
-use lnet_gates::{Gate, Gates, Op, Plan, Signal};
+use lnet_gates::{Gate, Gates, Key, Op, Plan, Signal};
 use lnet_store::{AddError, View};
 
 /// The gate of an operation on operands, at most 6.
@@ -31,6 +32,15 @@ fn gate_on(op: Op, operands: &[Signal]) -> Gate
         phase: false,
         fanins,
     }
+}
+
+/// The gate of a key and a phase.
+pub fn gate_of(key: &Key, phase: bool) -> Gate
+    ensures { result ≡ keyed_gate key.now phase }
+{
+    let mut gate = gate_on(key.op, key.fanins.as_slice());
+    gate.phase = phase;
+    gate
 }
 
 /// The signal of an operation on operands, as many as it takes: by a gate where the kind has the operation, and else by the

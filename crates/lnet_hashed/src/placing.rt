@@ -39,7 +39,7 @@ fn place_key(
     ensures kept { SlotsKept (Kept kind_of spec_of room) views.old.items views.new.items }
 {
     let _live = hashed.store.live_count();
-    match find(&hashed.store, &key) {
+    match find(hashed, &key) {
         Some(signal) => Ok(signal.flipped(phase)),
         None => match add_key(hashed, views, visits, key) {
             Ok(n) => Ok(Signal {

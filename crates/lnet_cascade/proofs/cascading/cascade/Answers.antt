@@ -15,6 +15,7 @@ gates-preserved g c =
       goes_on = λ N o s can begun. E.goes_on N o s can (I.goes_on N o s can begun);
       gates = E.gates;
       room = E.room;
+      indexed = E.indexed;
       long = E.long ∙ I.long;
       fit = E.fit;
       kept = kept-twice I.kept E.kept;

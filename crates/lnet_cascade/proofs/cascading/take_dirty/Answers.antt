@@ -5,39 +5,40 @@ use Rattle.lnet_model.specs.Networks.{entry_at}
 use Rattle.lnet_store.proofs.KeptLemmas.{gate-at}
 use Rattle.lnet_substitution.specs.Cascades.{CanMerge}
 use Rattle.lnet_cascade.proofs.Marking.{marked-clear, left-marks}
+use Rattle.lnet_cascade.proofs.Holders.{holder-of, nothing-stands, unused-of}
 use Rattle.lnet_cascade.proofs.DirtySteps.{set-same, dirty-native, signal-live, signal-apart, settled-goes_on, holder-merges}
 use Rattle.lnet_cascade.proofs.cascading.take_dirty.Goals as goal
 
 pub normal-requires : goal.normal-requires
 normal-requires g c =
     let at = gate-at (entry_at c.args.store.now.network c.args.n.0) c.in-Some.gate.now (sym c.in-Some.ensures) in
-    dirty-native g.G.Gates.KIND g.G.Gates.form g.met.G.Gates.laws c.args.store.now.network c.live_count-live.ensures.stored c.args.dirty.now.items c.requires.begun c.args.n.0 c.requires.dirty c.in-Some.gate.now at
+    dirty-native g.G.Gates.KIND g.G.Gates.form g.met.G.Gates.laws c.args.store.now.network c.live_count-live.ensures.stored c.args.keys.now.dirty.items c.requires.begun c.args.n.0 c.requires.dirty c.in-Some.gate.now at
 
 pub merge-requires-clause-live : goal.merge-requires-clause-live
 merge-requires-clause-live g c =
     let at = gate-at (entry_at c.args.store.now.network c.args.n.0) c.in-Some.gate.now (sym c.in-Some.ensures) in
-    signal-live g.G.Gates.KIND g.G.Gates.form g.met.G.Gates.laws c.args.store.now.network c.live_count-live.ensures.stored c.args.dirty.now.items c.requires.begun c.args.n.0 c.requires.dirty c.in-Some.gate.now at c.in-Is.to (sym c.normal.ensures ∙ c.in-Is.is)
+    signal-live g.G.Gates.KIND g.G.Gates.form g.met.G.Gates.laws c.args.store.now.network c.live_count-live.ensures.stored c.args.keys.now.dirty.items c.requires.begun c.args.n.0 c.requires.dirty c.in-Some.gate.now at c.in-Is.to (sym c.normal.ensures ∙ c.in-Is.is)
 
 pub merge-requires-clause-apart : goal.merge-requires-clause-apart
 merge-requires-clause-apart g c =
     let at = gate-at (entry_at c.args.store.now.network c.args.n.0) c.in-Some.gate.now (sym c.in-Some.ensures) in
-    signal-apart g.G.Gates.KIND g.G.Gates.form g.met.G.Gates.laws c.args.store.now.network c.live_count-live.ensures.stored c.args.dirty.now.items c.requires.begun c.args.n.0 c.requires.dirty c.in-Some.gate.now at c.in-Is.to (sym c.normal.ensures ∙ c.in-Is.is)
+    signal-apart g.G.Gates.KIND g.G.Gates.form g.met.G.Gates.laws c.args.store.now.network c.live_count-live.ensures.stored c.args.keys.now.dirty.items c.requires.begun c.args.n.0 c.requires.dirty c.in-Some.gate.now at c.in-Is.to (sym c.normal.ensures ∙ c.in-Is.is)
 
-pub merge-requires-in-Some-find_clean-clause-merges : goal.merge-requires-in-Some-find_clean-clause-merges
-merge-requires-in-Some-find_clean-clause-merges g c =
+pub merge-requires-in-Some-find-clause-merges : goal.merge-requires-in-Some-find-clause-merges
+merge-requires-in-Some-find-clause-merges g c =
     let at = gate-at (entry_at c.args.store.now.network c.args.n.0) c.in-Some.gate.now (sym c.in-Some.ensures) in (
       c.in-Some.gate.now,
       at,
       subst (CanMerge g.G.Gates.form c.args.store.now.network c.in-Some.gate.now) (sym c.flipped-to.ensures)
-          (holder-merges g.G.Gates.KIND g.G.Gates.form g.met.G.Gates.laws c.args.store.now.network c.live_count-live.ensures.stored c.args.dirty.now.items c.requires.begun c.args.n.0 c.requires.dirty c.in-Some.gate.now at c.in-Gate.key c.in-Gate.phase (sym c.normal.ensures ∙ c.in-Gate.is) c.in-Some-find_clean.found c.in-Some-find_clean.ensures),
+          (holder-merges g.G.Gates.KIND g.G.Gates.form g.met.G.Gates.laws c.args.store.now.network c.live_count-live.ensures.stored c.args.keys.now.dirty.items c.requires.begun c.args.n.0 c.requires.dirty c.in-Some.gate.now at c.in-Gate.key c.in-Gate.phase (sym c.normal.ensures ∙ c.in-Gate.is) c.in-Some-find.found (holder-of c.args.store.now.network c.args.keys.now c.args.numbers c.requires.indexed c.in-Gate.key c.in-Some-find.found ((c.find.ensures.stands c.in-Some-find.found).0 c.in-Some-find.is))),
     )
 
-pub returns-in-None-find_clean-clause-goes_on : goal.returns-in-None-find_clean-clause-goes_on
-returns-in-None-find_clean-clause-goes_on g c =
+pub returns-in-None-find-clause-goes_on : goal.returns-in-None-find-clause-goes_on
+returns-in-None-find-clause-goes_on g c =
     let N = c.args.store.now.network in
     let at = gate-at (entry_at c.args.store.now.network c.args.n.0) c.in-Some.gate.now (sym c.in-Some.ensures) in
-    settled-goes_on g.G.Gates.KIND g.G.Gates.form g.met.G.Gates.laws N c.live_count-live.ensures.stored c.args.dirty.now.items c.requires.begun c.args.n.0 c.requires.dirty c.in-Some.gate.now at c.in-Gate.key c.in-Gate.phase (sym c.normal.ensures ∙ c.in-Gate.is) N (sym (set-same N c.args.n.0 (keyed_gate c.in-Gate.key c.in-Gate.phase) (c.stands_at.ensures.0 c.if-stands_at.true))) g.met.G.Gates.and_phase c.in-None-find_clean.ensures
+    settled-goes_on g.G.Gates.KIND g.G.Gates.form g.met.G.Gates.laws N c.live_count-live.ensures.stored c.args.keys.now.dirty.items c.requires.begun c.args.n.0 c.requires.dirty c.in-Some.gate.now at c.in-Gate.key c.in-Gate.phase (sym c.normal.ensures ∙ c.in-Gate.is) N (sym (set-same N c.args.n.0 (keyed_gate c.in-Gate.key c.in-Gate.phase) (c.stands_at.ensures.0 c.if-stands_at.true))) g.met.G.Gates.and_phase (unused-of N c.args.keys.now c.args.numbers c.requires.indexed c.in-Gate.key (nothing-stands c.args.keys.now.table c.in-Gate.key c.find.result c.find.ensures.stands c.in-None-find.is))
 
-pub returns-in-None-find_clean-clause-less : goal.returns-in-None-find_clean-clause-less
-returns-in-None-find_clean-clause-less g c =
-    left-marks c.args.store.now.network c.args.store.now.network c.args.dirty.now.items (slice_set c.args.dirty.now.items c.args.n.0 false) refl (length-set c.args.dirty.now.items c.args.n.0 false) (marked-clear c.args.dirty.now.items c.args.n.0 c.requires.dirty)
+pub returns-in-None-find-clause-less : goal.returns-in-None-find-clause-less
+returns-in-None-find-clause-less g c =
+    left-marks c.args.store.now.network c.args.store.now.network c.args.keys.now.dirty.items (slice_set c.args.keys.now.dirty.items c.args.n.0 false) refl (length-set c.args.keys.now.dirty.items c.args.n.0 false) (marked-clear c.args.keys.now.dirty.items c.args.n.0 c.requires.dirty)

@@ -29,6 +29,8 @@ loop-n-preserved-then-drop_lost g c =
       fewer = λ _. omega arith;
       none = λ e. cc;
       below = subst (λ N. AreBelow N c.args.end) (sym network) (λ m live. c.loop-n.invariant.below m (left-live Q n m live));
+      indexed = c.drop_lost.ensures.indexed;
+      clean = c.drop_lost.ensures.clean;
       room = c.drop_lost.ensures.room;
       fit = c.drop_lost.ensures.fit;
       kept = kept-twice c.loop-n.invariant.kept c.drop_lost.ensures.kept;
@@ -53,6 +55,8 @@ loop-n-preserved g c =
           ]
           );
       below = subst (λ N. AreBelow N c.args.end) (sym network) c.loop-n.invariant.below;
+      indexed = c.drop_lost.ensures.indexed;
+      clean = c.drop_lost.ensures.clean;
       room = c.drop_lost.ensures.room;
       fit = c.drop_lost.ensures.fit;
       kept = kept-twice c.loop-n.invariant.kept c.drop_lost.ensures.kept;

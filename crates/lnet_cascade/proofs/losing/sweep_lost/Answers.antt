@@ -5,6 +5,8 @@ pub passes-preserved : goal.passes-preserved
 passes-preserved g c = record {
   drops = λ N P noted S. c.pass.ensures.drops N P noted (c.passes.invariant.drops N P noted S);
   below = c.pass.ensures.below;
+  indexed = c.pass.ensures.indexed;
+  clean = c.pass.ensures.clean;
   room = c.pass.ensures.room;
   fit = c.pass.ensures.fit;
   kept = kept-twice c.passes.invariant.kept c.pass.ensures.kept;

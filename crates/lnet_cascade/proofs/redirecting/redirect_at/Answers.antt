@@ -4,9 +4,10 @@ use Rattle.lnet_model.specs.Networks.{IsGate, entry_at, live_count}
 use Rattle.lnet_model.specs.Along.{nodes_read, Reaches, In}
 use Rattle.lnet_model.specs.Changes.{AreLive, with_entry}
 use Rattle.lnet_model.specs.Dags.{AreBelow}
-use Rattle.lnet_model.proofs.Changes.{with_entry-here}
+use Rattle.lnet_model.proofs.Changes.{with_entry-here, with_entry-apart}
 use Rattle.lnet_store.proofs.KeptLemmas.{gate-at}
-use Rattle.lnet_substitution.proofs.OneReplaced.{fanin-gate}
+use Rattle.lnet_hashed.proofs.Indexing.{same-gates}
+use Rattle.lnet_substitution.proofs.OneReplaced.{fanin-gate, gate-live}
 use Rattle.lnet_substitution.proofs.Merging.{not-both}
 use Rattle.lnet_cascade.specs.Redirections.{RedirectedAt}
 use Rattle.lnet_cascade.proofs.RedirectedGates.{below-set, redirected-live, redirected-free, redirected-at, redirected-same}
@@ -25,6 +26,18 @@ set_gate-old-requires-clause-free g c =
     let at = gate-at (entry_at N c.args.n) c.in-Some.gate.now (sym c.in-Some.ensures) in
     subst (λ (h : GateValue). (m : ℕ) → In m (nodes_read h.fanins) → Reaches N m c.args.n → ⊥) (sym c.of_gate-new.ensures)
     (redirected-free N c.args.n c.args.redirection.from.0 c.args.redirection.to c.in-Some.gate.now at (c.concerns.ensures.0 c.if-concerns.true) c.live_count-live.ensures.stored c.requires.live c.requires.free)
+
+pub soil-requires : goal.soil-requires
+soil-requires g c =
+    let at = gate-at (entry_at c.args.store.now.network c.args.n) c.in-Some.gate.now (sym c.in-Some.ensures) in
+    let low = c.requires.room.below c.args.n (gate-live c.args.store.now.network c.args.n c.in-Some.gate.now at) in
+    let long = c.requires.indexed.dirty_long in
+    omega arith
+
+pub returns-then-concerns-clause-indexed : goal.returns-then-concerns-clause-indexed
+returns-then-concerns-clause-indexed g c =
+    c.soil.ensures.indexed c.args.store.now.network c.set_gate-old.new.self.network c.args.numbers c.requires.indexed
+        (same-gates c.args.store.now.network c.set_gate-old.new.self.network c.args.n (λ m ne. ap (λ N. entry_at N m) c.set_gate-old.ensures.network ∙ with_entry-apart c.args.store.now.network c.args.n (IsGate c.of_gate-new.result) m ne))
 
 pub tell-requires-clause-event : goal.tell-requires-clause-event
 tell-requires-clause-event g c = (c.of_gate-new.result, ap (λ N. entry_at N c.args.n) c.set_gate-old.ensures.network ∙ with_entry-here c.args.store.now.network c.args.n (IsGate c.of_gate-new.result))

@@ -13,9 +13,10 @@ loop-n-preserved g c =
     let same : (m : ℕ) → m ≡ c.loop-n.n → entry_at c.loop-n.store.network m ≡ entry_at c.args.store.now.network m = λ m e. I.redirected.above m (omega (arith, e)) in
     record {
       redirected = below-more c.args.store.now.network c.loop-n.store.network c.redirect_at.new.store.network x c.args.redirection.to c.loop-n.n I.redirected E.redirected;
-      dirty = marks-more (λ m. In x (fanin_nodes (entry_at c.args.store.now.network m))) c.loop-n.n (λ m. (m ≡ c.loop-n.n) × In x (fanin_nodes (entry_at c.loop-n.store.network m))) c.args.dirty.now.items c.loop-n.dirty.items c.redirect_at.new.dirty.items I.dirty E.dirty
+      dirty = marks-more (λ m. In x (fanin_nodes (entry_at c.args.store.now.network m))) c.loop-n.n (λ m. (m ≡ c.loop-n.n) × In x (fanin_nodes (entry_at c.loop-n.store.network m))) c.args.keys.now.dirty.items c.loop-n.keys.dirty.items c.redirect_at.new.keys.dirty.items I.dirty E.dirty
           (λ m q. (q.0, subst (λ o. In x (fanin_nodes o)) (same m q.0) q.1))
           (λ p. (refl, subst (λ o. In x (fanin_nodes o)) (sym (same c.loop-n.n refl)) p));
+      indexed = E.indexed;
       room = E.room;
       fit = E.fit;
       kept = kept-twice I.kept E.kept;

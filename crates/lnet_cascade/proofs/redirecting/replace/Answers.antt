@@ -1,11 +1,15 @@
 use Rattle.std.proofs.Common.{◌≡◌, sym, ap, subst, ◌∙◌, arith}
-use Rattle.lnet_model.specs.Networks.{live_count}
+use Rattle.lnet_model.specs.Networks.{entry_at, gate_in, live_count}
+use Rattle.lnet_model.specs.Along.{In, fanin_nodes}
 use Rattle.lnet_model.specs.Changes.{IsGateAt, without}
 use Rattle.lnet_model.specs.Fanouts.{references}
 use Rattle.lnet_model.specs.Dags.{numbers_of, AreBelow}
 use Rattle.lnet_hashed.specs.Views.{Fits, EachSlot}
 use Rattle.lnet_hashed.proofs.KeptViews.{kept-twice}
-use Rattle.lnet_cascade.proofs.RedirectedAll.{all-gate, all-free, all-replaced, outputs-count}
+use Rattle.lnet_hashed.proofs.Indexing.{indexed-same}
+use Rattle.lnet_cascade.proofs.DirtySteps.{no_self}
+use Rattle.lnet_cascade.proofs.Marking.{marks-around}
+use Rattle.lnet_cascade.proofs.RedirectedAll.{all-gate, all-free, all-replaced, outputs-count, outputs-entry}
 use Rattle.lnet_cascade.proofs.SameViews.{fits-outputs, below-outputs}
 use Rattle.lnet_cascade.proofs.redirecting.replace.Goals as goal
 
@@ -38,6 +42,18 @@ pub remove-requires-clause-fit : goal.remove-requires-clause-fit
 remove-requires-clause-fit g c =
     subst (λ N. EachSlot (Fits (λ b. (goal.View-dyn g (b.vtable, b.value)).spec_of b.value) (λ b. (goal.View-dyn g (b.vtable, b.value)).kept b.value) (λ b. (goal.View-dyn g (b.vtable, b.value)).room b.value) N c.args.numbers) c.redirect_gates.new.views.items) (sym c.redirect_outputs.ensures.network)
     (fits-outputs (λ b. (goal.View-dyn g (b.vtable, b.value)).spec_of b.value) (λ b. (goal.View-dyn g (b.vtable, b.value)).kept b.value) (λ b. (goal.View-dyn g (b.vtable, b.value)).room b.value) c.redirect_gates.new.store.network c.args.redirection.from.0 c.args.redirection.to c.args.numbers c.redirect_gates.new.views.items c.redirect_gates.ensures.fit)
+
+pub remove-requires-clause-indexed : goal.remove-requires-clause-indexed
+remove-requires-clause-indexed g c =
+    let D = c.redirect_gates.new.store.network in
+    indexed-same D c.redirect_outputs.new.store.network c.redirect_gates.new.keys c.args.numbers
+        (λ m. ap gate_in (ap (λ N. entry_at N m) c.redirect_outputs.ensures.network ∙ outputs-entry D c.args.redirection.from.0 c.args.redirection.to m))
+        c.redirect_gates.ensures.indexed
+
+pub returns-clause-dirty : goal.returns-clause-dirty
+returns-clause-dirty g c =
+    marks-around (λ m. In c.args.redirection.from.0 (fanin_nodes (entry_at c.args.store.now.network m))) c.args.redirection.from.0 c.args.keys.now.dirty.items c.redirect_gates.new.keys.dirty.items c.remove.new.keys.dirty.items
+        (no_self c.args.store.now.network c.args.redirection.from.0 c.numbers-first.ensures.stored) c.redirect_gates.ensures.dirty c.remove.ensures.dirty
 
 pub returns-clause-network : goal.returns-clause-network
 returns-clause-network g c =

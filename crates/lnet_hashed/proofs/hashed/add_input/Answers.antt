@@ -3,7 +3,8 @@ use Rattle.lnet_model.specs.Dags.{IsDag, AreBelow}
 use Rattle.lnet_hashed.specs.Strashed.{least_free}
 use Rattle.lnet_hashed.specs.Views.{EachSlot, Fits}
 use Rattle.lnet_hashed.proofs.Adding.{least-is}
-use Rattle.lnet_hashed.proofs.SameNodes.{dag-same, fits-same, below-same, input-live, input-below, input-count}
+use Rattle.lnet_hashed.proofs.Indexing.{indexed-same}
+use Rattle.lnet_hashed.proofs.SameNodes.{dag-same, fits-same, below-same, input-live, input-below, input-count, input-gates}
 use Rattle.lnet_hashed.proofs.hashed.add_input.Goals as goal
 
 pub tell-requires-clause-before : goal.tell-requires-clause-before
@@ -37,5 +38,7 @@ returns-in-Ok-clause-room g c =
       below = input-below c.make_room.new.hashed.store.network c.add_input.new.self.network c.in-Ok.n.0 c.make_room.new.hashed.room c.in-Ok.ensures.network c.in-Ok.ensures.number c.in_ok-make_room.ensures.one_more c.make_room.ensures.room.below;
       stored = omega arith;
       limit = c.make_room.ensures.room.limit;
-      marked = c.make_room.ensures.room.marked;
+      named = c.make_room.ensures.room.named;
+      indexed = indexed-same c.make_room.new.hashed.store.network c.add_input.new.self.network c.make_room.new.hashed.keys c.make_room.new.hashed.room (input-gates c.make_room.new.hashed.store.network c.add_input.new.self.network c.in-Ok.n.0 c.in-Ok.ensures.network c.in-Ok.ensures.number.free) c.make_room.ensures.room.indexed;
+      clean = c.make_room.ensures.room.clean;
     }

@@ -7,6 +7,9 @@ use Rattle.lnet_hashed.proofs.placing.place_key.Goals as goal
 error-same : {A : Type 0} {a b : AddError} → ◌≡◌ {A = Result A AddError} (Err a) (Err b) → a ≡ b
 error-same e = cc
 
+pub add_key-requires-clause-absent : goal.add_key-requires-clause-absent
+add_key-requires-clause-absent g c = sym c.find.ensures.found ∙ c.in-None.is
+
 pub returns-in-Ok-clause-full : goal.returns-in-Ok-clause-full
 returns-in-Ok-clause-full g c =
     let more = placed-more c.args.hashed.now.store.network c.args.key c.args.phase (sym c.find.ensures.found ∙ c.in-None.is) in

@@ -120,8 +120,7 @@ impl<G: Gates> Network<G> {
 
     /// The signal of an operation on operands, as many as it takes: a gate that is there, or a new one, or by the plan of the
     /// kind. `Full` where the gates that are missing are more than the free numbers; `NoMemory` never where `spare` covers them.
-    /// Refused, the network is as it was. A search for the gate of each key looks at each number: linear in the numbers for
-    /// each gate of the plan.
+    /// Refused, the network is as it was. Constant time on average for each gate of the plan, beside what the views take.
     pub fn gate(&mut self, op: Op, operands: &[Signal]) -> Result<Signal, AddError>
         requires arity { Takes op (length operands.now) }
         requires live { AreLive self.old.core.network (nodes_read operands.now) }

@@ -1,12 +1,14 @@
-use Rattle.std.proofs.Common.{sym, subst, ◌∙◌, false, length-set, refl}
+use Rattle.std.proofs.Common.{◌<◌, sym, subst, ◌∙◌, false, length-set, refl}
 use Rattle.std.specs.Prelude.{slice_set}
 use Rattle.lnet_gates.specs.NormalLaws.{keyed_gate}
 use Rattle.lnet_model.specs.Networks.{entry_at}
 use Rattle.lnet_store.proofs.KeptLemmas.{gate-at}
 use Rattle.lnet_substitution.specs.Cascades.{CanMerge}
+use Rattle.lnet_cascade.specs.Marks.{OnlyGates}
+use Rattle.lnet_cascade.specs.Cascading.{GoesOn, left}
 use Rattle.lnet_cascade.proofs.Marking.{marked-clear, left-marks}
 use Rattle.lnet_cascade.proofs.Holders.{holder-of, nothing-stands, unused-of}
-use Rattle.lnet_cascade.proofs.DirtySteps.{set-same, dirty-native, signal-live, signal-apart, settled-goes_on, holder-merges}
+use Rattle.lnet_cascade.proofs.DirtySteps.{set-same, dirty-native, signal-live, signal-apart, settled-gates, settled-goes_on, holder-merges}
 use Rattle.lnet_cascade.proofs.cascading.take_dirty.Goals as goal
 
 pub normal-requires : goal.normal-requires
@@ -33,12 +35,32 @@ merge-requires-in-Some-find-clause-merges g c =
           (holder-merges g.G.Gates.KIND g.G.Gates.form g.met.G.Gates.laws c.args.store.now.network c.live_count-live.ensures.stored c.args.keys.now.dirty.items c.requires.begun c.args.n.0 c.requires.dirty c.in-Some.gate.now at c.in-Gate.key c.in-Gate.phase (sym c.normal.ensures ∙ c.in-Gate.is) c.in-Some-find.found (holder-of c.args.store.now.network c.args.keys.now c.args.numbers c.requires.indexed c.in-Gate.key c.in-Some-find.found ((c.find.ensures.stands c.in-Some-find.found).0 c.in-Some-find.is))),
     )
 
+pub enter-requires-clause-absent : goal.enter-requires-clause-absent
+enter-requires-clause-absent g c = nothing-stands c.args.keys.now.table c.in-Gate.key c.find.result c.find.ensures.stands c.in-None-find.is
+
+pub settle-requires-clause-unused : goal.settle-requires-clause-unused
+settle-requires-clause-unused g c = (unused-of c.args.store.now.network c.args.keys.now c.args.numbers c.requires.indexed c.in-Gate.key (nothing-stands c.args.keys.now.table c.in-Gate.key c.find.result c.find.ensures.stands c.in-None-find.is))
+
 pub returns-in-None-find-clause-goes_on : goal.returns-in-None-find-clause-goes_on
 returns-in-None-find-clause-goes_on g c =
     let N = c.args.store.now.network in
-    let at = gate-at (entry_at c.args.store.now.network c.args.n.0) c.in-Some.gate.now (sym c.in-Some.ensures) in
-    settled-goes_on g.G.Gates.KIND g.G.Gates.form g.met.G.Gates.laws N c.live_count-live.ensures.stored c.args.keys.now.dirty.items c.requires.begun c.args.n.0 c.requires.dirty c.in-Some.gate.now at c.in-Gate.key c.in-Gate.phase (sym c.normal.ensures ∙ c.in-Gate.is) N (sym (set-same N c.args.n.0 (keyed_gate c.in-Gate.key c.in-Gate.phase) (c.stands_at.ensures.0 c.if-stands_at.true))) g.met.G.Gates.and_phase (unused-of N c.args.keys.now c.args.numbers c.requires.indexed c.in-Gate.key (nothing-stands c.args.keys.now.table c.in-Gate.key c.find.result c.find.ensures.stands c.in-None-find.is))
+    let at = gate-at (entry_at N c.args.n.0) c.in-Some.gate.now (sym c.in-Some.ensures) in
+    let same = sym (set-same N c.args.n.0 (keyed_gate c.in-Gate.key c.in-Gate.phase) (c.stands_at.ensures.0 c.if-stands_at.true)) in
+    subst (GoesOn g.G.Gates.KIND g.G.Gates.form N c.args.keys.now.dirty.items N) (sym c.enter.ensures.dirty)
+    (settled-goes_on g.G.Gates.KIND g.G.Gates.form g.met.G.Gates.laws c.args.store.now.network c.live_count-live.ensures.stored c.args.keys.now.dirty.items c.requires.begun c.args.n.0 c.requires.dirty c.in-Some.gate.now at c.in-Gate.key c.in-Gate.phase (sym c.normal.ensures ∙ c.in-Gate.is) N same g.met.G.Gates.and_phase (unused-of c.args.store.now.network c.args.keys.now c.args.numbers c.requires.indexed c.in-Gate.key (nothing-stands c.args.keys.now.table c.in-Gate.key c.find.result c.find.ensures.stands c.in-None-find.is)))
+
+pub returns-in-None-find-clause-gates : goal.returns-in-None-find-clause-gates
+returns-in-None-find-clause-gates g c =
+    let N = c.args.store.now.network in
+    let at = gate-at (entry_at N c.args.n.0) c.in-Some.gate.now (sym c.in-Some.ensures) in
+    let same = sym (set-same N c.args.n.0 (keyed_gate c.in-Gate.key c.in-Gate.phase) (c.stands_at.ensures.0 c.if-stands_at.true)) in
+    subst (OnlyGates N) (sym c.enter.ensures.dirty) (settled-gates g.G.Gates.KIND g.G.Gates.form g.met.G.Gates.laws c.args.store.now.network c.live_count-live.ensures.stored c.args.keys.now.dirty.items c.requires.begun c.args.n.0 c.requires.dirty c.in-Some.gate.now at c.in-Gate.key c.in-Gate.phase (sym c.normal.ensures ∙ c.in-Gate.is) N same c.requires.gates)
 
 pub returns-in-None-find-clause-less : goal.returns-in-None-find-clause-less
 returns-in-None-find-clause-less g c =
-    left-marks c.args.store.now.network c.args.store.now.network c.args.keys.now.dirty.items (slice_set c.args.keys.now.dirty.items c.args.n.0 false) refl (length-set c.args.keys.now.dirty.items c.args.n.0 false) (marked-clear c.args.keys.now.dirty.items c.args.n.0 c.requires.dirty)
+    let N = c.args.store.now.network in
+    subst (λ bs. left N bs < left N c.args.keys.now.dirty.items) (sym c.enter.ensures.dirty)
+    (left-marks N N c.args.keys.now.dirty.items (slice_set c.args.keys.now.dirty.items c.args.n.0 false) refl (length-set c.args.keys.now.dirty.items c.args.n.0 false) (marked-clear c.args.keys.now.dirty.items c.args.n.0 c.requires.dirty))
+
+pub returns-in-None-find-clause-indexed : goal.returns-in-None-find-clause-indexed
+returns-in-None-find-clause-indexed g c = c.enter.ensures.indexed c.args.store.now.network c.args.store.now.network c.args.numbers c.requires.indexed (λ m ne. refl) (c.stands_at.ensures.0 c.if-stands_at.true)

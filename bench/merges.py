@@ -3,11 +3,12 @@
 
     bench/merges.py [PROGRAM] [NETWORKS] [FIRST]
 
-Generates NETWORKS networks from the numbers FIRST on, of each kind in turn, and lets random pairs of a gate and a signal be merged in a run of
-PROGRAM (`crates/lognet/out/lognet`). Most of the pairs have one function, the others are any. After each merge the program prints the
-network, simulates it and asks the depth view for each level. Everything that it says is compared with what this script computes from the
-network printed before: the answer and its cause, the functions of the outputs, the count of gates of the network with the gate replaced and
-built anew under structural hashing, normal forms, levels, and that no gate is without a reference. It stops at the first difference.
+Generates NETWORKS networks from the numbers FIRST on, of each kind in turn, and lets random pairs of a gate and a signal be
+merged in a run of PROGRAM (`crates/lognet/out/lognet`). Most of the pairs have one function, the others are any. After each merge
+the program prints the network, simulates it and asks the depth view for each level. Everything that it says is compared with what
+this script computes from the network printed before: the answer and its cause, the functions of the outputs, the count of gates
+of the network with the gate replaced and built anew under structural hashing, normal forms, levels, and that no gate is without a
+reference. It stops at the first difference.
 """
 import random
 import subprocess
@@ -148,6 +149,7 @@ class Network:
         """How many gates the outputs reach once `code` replaces `n` and all is built anew under hashing."""
         signals, keys, made = {m: 2 * m for m in [0, *self.inputs]}, {}, {}
         order = [m for m in self.order() if m != n]
+        fresh = 1 + max([0, *self.inputs, *self.gates])
         # What stands above n is built after what the signal stands on.
         waiting, place = list(order), lambda c: (code ^ (c & 1)) if c >> 1 == n else c
         while waiting:
@@ -162,7 +164,7 @@ class Network:
                 if isinstance(form, tuple):
                     key, turned = form
                     if key not in keys:
-                        keys[key] = max([*signals, *made, *self.gates, 0]) + 1 + len(made)
+                        keys[key] = fresh + len(made)
                         made[keys[key]] = key
                     form = 2 * keys[key] + turned
                 signals[m] = form ^ phase

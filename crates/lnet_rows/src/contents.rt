@@ -1,6 +1,6 @@
 //! Contents of each format, right and wrong, that are read as the first command of a script, and generated circuits.
 
-use crate::runs::{compare, status_of};
+use crate::runs::{ONE, compare, owned, status_of};
 use lnet_edge::{MemoryFiles, MemorySink};
 use std::alloc::{AllocError, Global};
 use std::process::Abort;
@@ -19,9 +19,7 @@ struct Content {
 fn check<R: Abort>(rt: &R, alloc: Global, content: &Content) -> Result<(), AllocError> {
     let mut files = MemoryFiles::new(alloc, Vec::new(alloc));
     files.set(content.name, content.bytes)?;
-    let mut words = Vec::new(alloc);
-    words.push(String::from_str(alloc, "lognet")?)?;
-    words.push(String::from_str(alloc, content.script)?)?;
+    let words = owned(alloc, &["lognet", content.script])?;
     compare(
         rt,
         alloc,
@@ -265,11 +263,12 @@ fn told(count: usize) -> &'static str {
 /// Reads the first bytes of the binary file behind another, and compares what is told.
 fn check_cut<R: Abort>(rt: &R, alloc: Global, count: usize) -> Result<(), AllocError> {
     let mut files = MemoryFiles::new(alloc, Vec::new(alloc));
-    files.set("one.aag", b"aag 0 0 0 1 0\n1\n")?;
+    files.set("one.aag", ONE)?;
     files.set("cut.aig", BINARY.get(..count).unwrap_or(BINARY))?;
-    let mut words = Vec::new(alloc);
-    words.push(String::from_str(alloc, "lognet")?)?;
-    words.push(String::from_str(alloc, "read aiger one.aag aig; read aiger cut.aig aig")?)?;
+    let words = owned(
+        alloc,
+        &["lognet", "read aiger one.aag aig; read aiger cut.aig aig"],
+    )?;
     let line = told(count);
     let transcript = format!(in alloc; "network aig inputs 0 outputs 1 gates 0\n{line}")?;
     let status = if count < BINARY.len() { 1 } else { 0 };
@@ -300,14 +299,10 @@ const C17: &[u8] =
 /// Reads the first bytes of the file behind another: where they mean no circuit, the network in place stays.
 fn check_prefix<R: Abort>(rt: &R, alloc: Global, count: usize) -> Result<(), AllocError> {
     let mut files = MemoryFiles::new(alloc, Vec::new(alloc));
-    files.set("one.aag", b"aag 0 0 0 1 0\n1\n")?;
+    files.set("one.aag", ONE)?;
     files.set("cut.bench", C17.get(..count).unwrap_or(C17))?;
-    let mut words = Vec::new(alloc);
-    words.push(String::from_str(alloc, "lognet")?)?;
-    words.push(String::from_str(
-        alloc,
-        "read aiger one.aag aig; read bench cut.bench aig; stats",
-    )?)?;
+    let script = "read aiger one.aag aig; read bench cut.bench aig; stats";
+    let words = owned(alloc, &["lognet", script])?;
     let mut out = MemorySink::new(alloc, Vec::new(alloc));
     let status = status_of(alloc, &words, &mut files, &mut out)?;
     if status == 1 {

@@ -2,6 +2,7 @@
 
 ghost use Rattle.std.specs.Prelude.{◌≡◌};
 
+use crate::runs::{TWO, owned};
 use lnet_edge::{MemoryFiles, MemorySink};
 use lnet_gates::Node;
 use lnet_model::{Cut, Event, ViewKind, ViewSpec};
@@ -92,10 +93,8 @@ fn asked_in<R: Abort>(
     transcript: &str,
 ) -> Result<u64, AllocError> {
     let mut files = MemoryFiles::new(alloc, Vec::new(alloc));
-    files.set("n.aag", b"aag 4 2 0 1 2\n2\n4\n9\n6 4 2\n8 7 3\n")?;
-    let mut words = Vec::new(alloc);
-    words.push(String::from_str(alloc, "lognet")?)?;
-    words.push(String::from_str(alloc, script)?)?;
+    files.set("n.aag", TWO)?;
+    let words = owned(alloc, &["lognet", script])?;
     let asked = Rc::new(alloc, Cell::new(0u64))?;
     let view: Box<dyn View> = Box::new(
         alloc,

@@ -1,6 +1,6 @@
 //! Every normal form of the four kinds, in a file that is read and in the network that is printed.
 
-use crate::runs::compare;
+use crate::runs::{compare, owned};
 use lnet_edge::MemoryFiles;
 use std::alloc::{AllocError, Global};
 use std::process::Abort;
@@ -19,9 +19,8 @@ fn check<R: Abort>(rt: &R, alloc: Global, form: &Form) -> Result<(), AllocError>
     let file = format!(in alloc; "INPUT(a)\nINPUT(b)\nINPUT(c)\nOUTPUT(f)\n{}", form.lines)?;
     let mut files = MemoryFiles::new(alloc, Vec::new(alloc));
     files.set("f.bench", file.as_bytes())?;
-    let mut words = Vec::new(alloc);
-    words.push(String::from_str(alloc, "lognet")?)?;
-    words.push(format!(in alloc; "read bench f.bench {}; print", form.kind)?)?;
+    let script = format!(in alloc; "read bench f.bench {}; print", form.kind)?;
+    let words = owned(alloc, &["lognet", &script])?;
     let transcript = format!(in alloc;
         "network {} inputs 3 outputs 1 gates {}\nnode 0 false\nnode 1 input 0\nnode 2 input 1\nnode 3 input 2\n{}",
         form.kind, form.gates, form.printed

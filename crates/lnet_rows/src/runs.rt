@@ -9,7 +9,7 @@ use std::process::Abort;
 use std::test::Fail;
 
 /// One output, the constant true.
-const ONE: &[u8] = b"aag 0 0 0 1 0\n1\n";
+pub(crate) const ONE: &[u8] = b"aag 0 0 0 1 0\n1\n";
 
 /// The words of a command line, and what its run puts and answers.
 #[derive(Clone, Copy)]
@@ -19,7 +19,8 @@ struct Row {
     status: u8,
 }
 
-fn owned(alloc: Global, words: &[&str]) -> Result<Vec<String>, AllocError> {
+/// The words as a command line has them.
+pub(crate) fn owned(alloc: Global, words: &[&str]) -> Result<Vec<String>, AllocError> {
     let mut owned = Vec::new(alloc);
     for word in words {
         owned.push(String::from_str(alloc, word)?)?;
@@ -107,7 +108,7 @@ fn reads_and_writes(rt: HostRuntime) -> Result<(), Fail> {
 }
 
 /// A network of two gates, of inputs 1 and 2, complemented here and there.
-const TWO: &[u8] = b"aag 4 2 0 1 2\n2\n4\n9\n6 4 2\n8 7 3\n";
+pub(crate) const TWO: &[u8] = b"aag 4 2 0 1 2\n2\n4\n9\n6 4 2\n8 7 3\n";
 
 /// Views that are attached, asked and put back; networks of four kinds; commands that are not met; and words and scripts that are
 /// refused.

@@ -5,16 +5,15 @@ use Rattle.std.proofs.lemmas.Bool.Decides.{eqb_tells}
 use Rattle.lnet_gates.specs.declared.signal.Node.{Node}
 use Rattle.lnet_gates.specs.declared.signal.Signal.{Signal}
 use Rattle.lnet_gates.specs.Gates.{GateValue, KeyValue}
-use Rattle.lnet_gates.specs.NormalLaws.{keyed_gate}
 use Rattle.lnet_model.specs.Networks.{NetworkValue, Entry, Constant, Input, IsGate, IsLive, entry_at, gate_in, gate_at}
 use Rattle.lnet_model.specs.Changes.{GateAt}
-use Rattle.lnet_strash.specs.Standing.{Standing, KeysDiffer, at, room}
+use Rattle.lnet_strash.specs.Standing.{KeysDiffer, at, room}
 use Rattle.lnet_strash.proofs.Links.{not-some}
 use Rattle.lnet_strash.proofs.Tables.{key-is, place-phase}
 use Rattle.lnet_hashed.specs.declared.keys.Keys.{Keys}
 use Rattle.lnet_hashed.specs.Strashed.{key_of, found}
 use Rattle.lnet_hashed.specs.Indexed.{AllClean, HasGatesBeside, IsIndexed, stands_for}
-use Rattle.lnet_hashed.proofs.KeyLemmas.{IsFound, found-key, found-none}
+use Rattle.lnet_hashed.proofs.KeyLemmas.{found-key, found-none}
 
 -- ---- signals of entries
 
@@ -49,8 +48,8 @@ indexed-after N M old new n numbers b low dirty here beside same_room differ I g
     | inl p ↦ subst (λ z. at new.table z ≡ stands_for (gate_at M z) (slice_index_or new.dirty.items z false)) (sym p.1) (here ∙ ap (stands_for (gate_at M n)) (sym (ap (λ bs. slice_index_or bs n false) dirty ∙ get_or-set_same old.dirty.items n b false low)))
     | inr p ↦
         beside m p.1 ∙ I.stands m
-            ∙ ap (λ g. stands_for g (slice_index_or old.dirty.items m false)) (sym (gates m p.1))
-            ∙ ap (stands_for (gate_at M m)) (sym (ap (λ bs. slice_index_or bs m false) dirty ∙ get_or-set_other old.dirty.items n m b false p.1))
+        ∙ ap (λ g. stands_for g (slice_index_or old.dirty.items m false)) (sym (gates m p.1))
+        ∙ ap (stands_for (gate_at M m)) (sym (ap (λ bs. slice_index_or bs m false) dirty ∙ get_or-set_other old.dirty.items n m b false p.1))
   ];
   differ = differ;
 }

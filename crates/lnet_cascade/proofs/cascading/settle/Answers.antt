@@ -79,8 +79,8 @@ returns-clause-less g c =
 pub returns-clause-indexed : goal.returns-clause-indexed
 returns-clause-indexed g c =
     c.enter.ensures.indexed c.args.store.now.network c.set_gate-old.new.self.network c.args.numbers c.requires.indexed
-        (same-gates c.args.store.now.network c.set_gate-old.new.self.network c.args.n.0 (λ m ne. ap (λ N. entry_at N m) c.set_gate-old.ensures.network ∙ with_entry-apart c.args.store.now.network c.args.n.0 (IsGate c.gate_of.result) m ne))
-        (ap (λ N. entry_at N c.args.n.0) c.set_gate-old.ensures.network ∙ with_entry-here c.args.store.now.network c.args.n.0 (IsGate c.gate_of.result) ∙ ap (λ (h : GateValue). Some (IsGate h)) c.gate_of.ensures)
+    (same-gates c.args.store.now.network c.set_gate-old.new.self.network c.args.n.0 (λ m ne. ap (λ N. entry_at N m) c.set_gate-old.ensures.network ∙ with_entry-apart c.args.store.now.network c.args.n.0 (IsGate c.gate_of.result) m ne))
+    (ap (λ N. entry_at N c.args.n.0) c.set_gate-old.ensures.network ∙ with_entry-here c.args.store.now.network c.args.n.0 (IsGate c.gate_of.result) ∙ ap (λ (h : GateValue). Some (IsGate h)) c.gate_of.ensures)
 
 pub returns-clause-long : goal.returns-clause-long
 returns-clause-long g c = ap length c.enter.ensures.dirty ∙ length-set c.args.keys.now.dirty.items c.args.n.0 false

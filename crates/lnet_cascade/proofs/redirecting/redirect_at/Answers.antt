@@ -37,7 +37,7 @@ soil-requires g c =
 pub returns-then-concerns-clause-indexed : goal.returns-then-concerns-clause-indexed
 returns-then-concerns-clause-indexed g c =
     c.soil.ensures.indexed c.args.store.now.network c.set_gate-old.new.self.network c.args.numbers c.requires.indexed
-        (same-gates c.args.store.now.network c.set_gate-old.new.self.network c.args.n (λ m ne. ap (λ N. entry_at N m) c.set_gate-old.ensures.network ∙ with_entry-apart c.args.store.now.network c.args.n (IsGate c.of_gate-new.result) m ne))
+    (same-gates c.args.store.now.network c.set_gate-old.new.self.network c.args.n (λ m ne. ap (λ N. entry_at N m) c.set_gate-old.ensures.network ∙ with_entry-apart c.args.store.now.network c.args.n (IsGate c.of_gate-new.result) m ne))
 
 pub tell-requires-clause-event : goal.tell-requires-clause-event
 tell-requires-clause-event g c = (c.of_gate-new.result, ap (λ N. entry_at N c.args.n) c.set_gate-old.ensures.network ∙ with_entry-here c.args.store.now.network c.args.n (IsGate c.of_gate-new.result))

@@ -34,5 +34,5 @@ forget-requires g c =
 pub returns-clause-indexed : goal.returns-clause-indexed
 returns-clause-indexed g c =
     c.forget.ensures.indexed c.args.store.now.network c.remove-gate.new.self.network c.args.numbers c.requires.indexed
-        (same-gates c.args.store.now.network c.remove-gate.new.self.network c.args.n.0 (λ m ne. ap (λ N. entry_at N m) c.remove-gate.ensures.network ∙ without-apart c.args.store.now.network c.args.n.0 m ne))
-        (ap (λ N. gate_at N c.args.n.0) c.remove-gate.ensures.network ∙ ap gate_in (without-here c.args.store.now.network c.args.n.0))
+    (same-gates c.args.store.now.network c.remove-gate.new.self.network c.args.n.0 (λ m ne. ap (λ N. entry_at N m) c.remove-gate.ensures.network ∙ without-apart c.args.store.now.network c.args.n.0 m ne))
+    (ap (λ N. gate_at N c.args.n.0) c.remove-gate.ensures.network ∙ ap gate_in (without-here c.args.store.now.network c.args.n.0))

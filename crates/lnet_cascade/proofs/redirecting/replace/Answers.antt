@@ -47,13 +47,13 @@ pub remove-requires-clause-indexed : goal.remove-requires-clause-indexed
 remove-requires-clause-indexed g c =
     let D = c.redirect_gates.new.store.network in
     indexed-same D c.redirect_outputs.new.store.network c.redirect_gates.new.keys c.args.numbers
-        (λ m. ap gate_in (ap (λ N. entry_at N m) c.redirect_outputs.ensures.network ∙ outputs-entry D c.args.redirection.from.0 c.args.redirection.to m))
-        c.redirect_gates.ensures.indexed
+    (λ m. ap gate_in (ap (λ N. entry_at N m) c.redirect_outputs.ensures.network ∙ outputs-entry D c.args.redirection.from.0 c.args.redirection.to m))
+    c.redirect_gates.ensures.indexed
 
 pub returns-clause-dirty : goal.returns-clause-dirty
 returns-clause-dirty g c =
     marks-around (λ m. In c.args.redirection.from.0 (fanin_nodes (entry_at c.args.store.now.network m))) c.args.redirection.from.0 c.args.keys.now.dirty.items c.redirect_gates.new.keys.dirty.items c.remove.new.keys.dirty.items
-        (no_self c.args.store.now.network c.args.redirection.from.0 c.numbers-first.ensures.stored) c.redirect_gates.ensures.dirty c.remove.ensures.dirty
+    (no_self c.args.store.now.network c.args.redirection.from.0 c.numbers-first.ensures.stored) c.redirect_gates.ensures.dirty c.remove.ensures.dirty
 
 pub returns-clause-network : goal.returns-clause-network
 returns-clause-network g c =

@@ -21,14 +21,14 @@ tell-requires-clause-below g c = added-below c.make_room.new.hashed.store.networ
 pub enter-requires-clause-marked : goal.enter-requires-clause-marked
 enter-requires-clause-marked g c =
     let low = added-below c.make_room.new.hashed.store.network c.add.new.self.network c.in-Ok.n.0 c.make_room.new.hashed.room _ c.in-Ok.ensures.network c.in-Ok.ensures.number c.in_ok-make_room.ensures.one_more c.make_room.ensures.room.below c.in-Ok.n.0
-        (added-live c.make_room.new.hashed.store.network c.add.new.self.network c.in-Ok.n.0 _ c.in-Ok.ensures.network) in
+    (added-live c.make_room.new.hashed.store.network c.add.new.self.network c.in-Ok.n.0 _ c.in-Ok.ensures.network) in
     let long = c.make_room.ensures.room.indexed.dirty_long in
     omega arith
 
 pub enter-requires-clause-placed : goal.enter-requires-clause-placed
 enter-requires-clause-placed g c =
     let low = added-below c.make_room.new.hashed.store.network c.add.new.self.network c.in-Ok.n.0 c.make_room.new.hashed.room _ c.in-Ok.ensures.network c.in-Ok.ensures.number c.in_ok-make_room.ensures.one_more c.make_room.ensures.room.below c.in-Ok.n.0
-        (added-live c.make_room.new.hashed.store.network c.add.new.self.network c.in-Ok.n.0 _ c.in-Ok.ensures.network) in
+    (added-live c.make_room.new.hashed.store.network c.add.new.self.network c.in-Ok.n.0 _ c.in-Ok.ensures.network) in
     let long = c.make_room.ensures.room.indexed.table_long in
     omega arith
 

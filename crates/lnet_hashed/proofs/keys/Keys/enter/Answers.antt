@@ -16,6 +16,6 @@ insert-requires-clause-absent c = no-entry c.args.self.now.table c.args.key c.re
 pub returns-clause-indexed : goal.returns-clause-indexed
 returns-clause-indexed c N M room I same here =
     indexed-after N M c.args.self.now _ c.args.n.0 room false c.requires.marked refl
-        (ap (λ (t : Standing). at t c.args.n.0) c.insert.ensures.standing ∙ at-same c.args.self.now.table c.args.n.0 (Some (c.args.key, c.args.phase)) c.requires.placed ∙ sym (ap (λ o. stands_for (gate_in o) false) here))
-        (λ m ne. ap (λ (t : Standing). at t m) c.insert.ensures.standing ∙ at-other c.args.self.now.table c.args.n.0 (Some (c.args.key, c.args.phase)) m ne)
-        c.insert.ensures.room c.insert.ensures.unique I same
+    (ap (λ (t : Standing). at t c.args.n.0) c.insert.ensures.standing ∙ at-same c.args.self.now.table c.args.n.0 (Some (c.args.key, c.args.phase)) c.requires.placed ∙ sym (ap (λ o. stands_for (gate_in o) false) here))
+    (λ m ne. ap (λ (t : Standing). at t m) c.insert.ensures.standing ∙ at-other c.args.self.now.table c.args.n.0 (Some (c.args.key, c.args.phase)) m ne)
+    c.insert.ensures.room c.insert.ensures.unique I same

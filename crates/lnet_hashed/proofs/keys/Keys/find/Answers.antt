@@ -1,5 +1,4 @@
-use Rattle.std.proofs.Common.{◌≡◌, Some, option_map, sym, ap, subst, ◌∙◌}
-use Rattle.lnet_gates.specs.declared.signal.Node.{Node}
+use Rattle.std.proofs.Common.{◌≡◌, Some, sym, subst, ◌∙◌}
 use Rattle.lnet_gates.specs.declared.signal.Signal.{Signal}
 use Rattle.lnet_strash.specs.Standing.{at}
 use Rattle.lnet_hashed.proofs.Indexing.{signal-is, entry-signal, no-signal, no-entry-here}

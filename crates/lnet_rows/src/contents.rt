@@ -31,7 +31,7 @@ fn check<R: Abort>(rt: &R, alloc: Global, content: &Content) -> Result<(), Alloc
     )
 }
 
-const CONTENTS: [Content; 29] = [
+const CONTENTS: [Content; 32] = [
     Content {
         name: "forward.aag",
         bytes: b"aag 5 2 0 1 3\n2\n4\n10\n10 8 6\n6 2 4\n8 3 5\n",
@@ -205,6 +205,27 @@ const CONTENTS: [Content; 29] = [
         bytes: b"INPUT(a)\nINPUT(b)\nINPUT(c)\nOUTPUT(f)\nx = AND(a, b)\nna = NOT(a)\ny = AND(na, c)\nn = AND(x, y)\nf = OR(n, c)\n",
         script: "read bench j.bench mig; merge 6 0; print",
         transcript: "network mig inputs 3 outputs 1 gates 4\nmerged 6 gates 0\nnode 0 false\nnode 1 input 0\nnode 2 input 1\nnode 3 input 2\noutput 0 3\n",
+        status: 0,
+    },
+    Content {
+        name: "t.bench",
+        bytes: b"INPUT(a)\nINPUT(b)\nINPUT(c)\nOUTPUT(f)\nOUTPUT(g)\nx = AND(a, b)\no = OR(a, x)\np = XOR(o, c)\nq = AND(p, a)\nf = XOR(q, b)\nr = XOR(a, c)\ns = AND(r, a)\ng = XOR(s, b)\n",
+        script: "read bench t.bench xag; view depth; ask 1 level 8; merge 5 !1; ask 1 level 11; print",
+        transcript: "network xag inputs 3 outputs 2 gates 8\nview 1 depth\nlevel 8 5\nmerged 5 gates 3\nlevel 11 3\nnode 0 false\nnode 1 input 0\nnode 2 input 1\nnode 3 input 2\nnode 9 xor 1 3\nnode 10 and 1 9\nnode 11 xor 2 10\noutput 0 11\noutput 1 11\n",
+        status: 0,
+    },
+    Content {
+        name: "t.bench",
+        bytes: b"INPUT(a)\nINPUT(b)\nINPUT(c)\nOUTPUT(f)\nOUTPUT(g)\nx = AND(a, b)\no = OR(a, x)\np = XOR(o, c)\nq = AND(p, a)\nf = XOR(q, b)\nr = XOR(a, c)\ns = AND(r, a)\ng = XOR(s, b)\n",
+        script: "read bench t.bench klut; view depth; ask 1 level 8; merge 5 1; ask 1 level 11; print",
+        transcript: "network klut inputs 3 outputs 2 gates 8\nview 1 depth\nlevel 8 5\nmerged 5 gates 3\nlevel 11 3\nnode 0 false\nnode 1 input 0\nnode 2 input 1\nnode 3 input 2\nnode 9 lut 6 1 3\nnode 10 lut 8 1 9\nnode 11 lut 6 2 10\noutput 0 11\noutput 1 11\n",
+        status: 0,
+    },
+    Content {
+        name: "v.bench",
+        bytes: b"INPUT(a)\nINPUT(b)\nOUTPUT(f)\nx = AND(a, b)\no = OR(a, x)\nf = AND(o, a)\n",
+        script: "read bench v.bench aig; merge 4 !1; print",
+        transcript: "network aig inputs 2 outputs 1 gates 3\nmerged 4 gates 0\nnode 0 false\nnode 1 input 0\nnode 2 input 1\noutput 0 1\n",
         status: 0,
     },
     Content {

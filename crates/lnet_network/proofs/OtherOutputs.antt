@@ -1,21 +1,21 @@
 -- A change of outputs leaves what stands where, and so what views keep and what room there is.
-use Rattle.std.proofs.Common.{arith, ◌≡◌, ◌≤◌, ◌<◌, ℕ, List, IsSome, Option, None, Some, IfSome, Result, Ok, Err, OnOk, OnErr, option_map, slice_index_or, refl, sym, ap, subst, ◌∙◌}
+use Rattle.std.proofs.Common.{arith, ◌≡◌, ◌≤◌, ℕ, List, IsSome, Option, None, Some, IfSome, Result, Ok, Err, OnOk, OnErr, option_map, slice_index_or, refl, sym, ap, subst, ◌∙◌}
 use Rattle.lnet_gates.specs.declared.gate.Kind.{Kind}
 use Rattle.lnet_gates.specs.declared.signal.Signal.{Signal}
 use Rattle.lnet_gates.specs.declared.normal.Normal.{Normal}
 use Rattle.lnet_gates.specs.Gates.{GateValue}
-use Rattle.lnet_model.specs.Networks.{NetworkValue, entry_at, live_count}
+use Rattle.lnet_model.specs.Networks.{NetworkValue, entry_at, gate_in, live_count}
 use Rattle.lnet_model.specs.Along.{over}
 use Rattle.lnet_model.specs.Fanouts.{fan}
 use Rattle.lnet_model.specs.Answers.{Answer, from_scratch}
 use Rattle.lnet_model.specs.declared.view_spec.ViewSpec.{ViewSpec}
 use Rattle.lnet_model.specs.declared.view_spec.ViewSpec.TheVariants.{Depth, Fanout, Cuts}
-use Rattle.lnet_store.specs.StoreValues.{with_new_output, with_output}
+use Rattle.lnet_store.specs.StoreValues.{StoreValue, with_new_output, with_output}
 use Rattle.lnet_hashed.specs.declared.hashed.Hashed.{Hashed}
 use Rattle.lnet_hashed.specs.Strashed.{IsStrashed, of_kind}
 use Rattle.lnet_hashed.specs.Rooms.{HasRoom}
-use Rattle.lnet_hashed.specs.Marked.{AreMarks}
 use Rattle.lnet_hashed.specs.Views.{EachSlot, Fits}
+use Rattle.lnet_hashed.proofs.Indexing.{indexed-same}
 use Rattle.lnet_hashed.proofs.Strashing.{strashed-same}
 
 -- N with other outputs
@@ -83,14 +83,16 @@ count-outputs : (N : NetworkValue) (outputs : List Signal) → live_count (with_
 unfolding live_count
 count-outputs N outputs = refl
 
-pub room-outputs : (h k : Hashed) → IsOutputsOf h.store.network k.store.network → h.room ≡ k.room → h.marks ≡ k.marks → h.store.spare ≤ k.store.spare → HasRoom h → HasRoom k
-room-outputs h k is same marks more old =
-    let count : live_count k.store.network ≡ live_count h.store.network = ap live_count is ∙ count-outputs h.store.network k.store.network.outputs in
+pub room-outputs : (h : Hashed) (s : StoreValue) → IsOutputsOf h.store.network s.network → h.store.spare ≤ s.spare → HasRoom h → HasRoom (record h { store = s })
+room-outputs h s is more old =
+    let count : live_count s.network ≡ live_count h.store.network = ap live_count is ∙ count-outputs h.store.network s.network.outputs in
     let stored = old.stored in
-    let limit = old.limit in
+    let same : (n : ℕ) → entry_at s.network n ≡ entry_at h.store.network n = λ n. ap (λ (X : NetworkValue). entry_at X n) is ∙ entry-outputs h.store.network s.network.outputs n in
     record {
-      below = λ n live. subst (λ x. n < x) same (old.below n (subst IsSome (ap (λ (X : NetworkValue). entry_at X n) is ∙ entry-outputs h.store.network k.store.network.outputs n) live));
+      below = λ n live. old.below n (subst IsSome (same n) live);
       stored = omega arith;
-      limit = omega arith;
-      marked = subst (λ m. AreMarks m k.room) marks (subst (AreMarks h.marks) same old.marked);
+      limit = old.limit;
+      named = old.named;
+      indexed = indexed-same h.store.network s.network h.keys h.room (λ n. ap gate_in (same n)) old.indexed;
+      clean = old.clean;
     }

@@ -1,4 +1,4 @@
-use Rattle.std.proofs.Common.{IsSome, Result, Ok, Err, OnOk, refl, sym, ap, subst, ◌∙◌}
+use Rattle.std.proofs.Common.{IsSome, Result, Ok, Err, OnOk, sym, ap, subst, ◌∙◌}
 use Rattle.lnet_model.specs.Networks.{entry_at}
 use Rattle.lnet_store.specs.StoreValues.{with_new_output}
 use Rattle.lnet_hashed.specs.Strashed.{of_kind}
@@ -17,7 +17,7 @@ add_output-requires-clause-live g c = subst IsSome (sym (ap (λ n. entry_at n.co
 pub invariant_of-self : goal.invariant_of-self
 invariant_of-self g c =
     let is = either-outputs c.self.inside.0.0.hashed.store.network c.add_output.new.self.network c.args.s _ c.add_output.result c.add_output.ensures.network c.add_output.ensures.refused in
-    (strashed-outputs g.G.Gates.KIND g.G.Gates.form c.self.inside.0.0.hashed.store.network c.add_output.new.self.network is c.self.invariant.0, room-outputs c.self.inside.0.0.hashed (record { store = c.add_output.new.self; room = c.self.inside.0.0.hashed.room; marks = c.self.inside.0.0.hashed.marks }) is refl refl c.add_output.ensures.spare c.self.invariant.1)
+    (strashed-outputs g.G.Gates.KIND g.G.Gates.form c.self.inside.0.0.hashed.store.network c.add_output.new.self.network is c.self.invariant.0, room-outputs c.self.inside.0.0.hashed c.add_output.new.self is c.add_output.ensures.spare c.self.invariant.1)
 
 pub returns-clause-network : goal.returns-clause-network
 returns-clause-network g c = then-ok _ _ c.add_output.result (λ is. ap (of_kind g.G.Gates.KIND) is ∙ new-output-kind g.G.Gates.KIND c.self.inside.0.0.hashed.store.network c.args.s ∙ ap (λ n. with_new_output n.core.network c.args.s) c.self.view_is) c.add_output.ensures.network

@@ -1,4 +1,4 @@
-use Rattle.std.proofs.Common.{IsSome, refl, sym, ap, subst, ◌∙◌}
+use Rattle.std.proofs.Common.{IsSome, sym, ap, subst, ◌∙◌}
 use Rattle.lnet_model.specs.Networks.{entry_at}
 use Rattle.lnet_store.specs.StoreValues.{with_output}
 use Rattle.lnet_hashed.specs.Strashed.{of_kind}
@@ -13,7 +13,7 @@ set_output-requires-clause-live g c = subst IsSome (sym (ap (λ n. entry_at n.co
 pub invariant_of-self : goal.invariant_of-self
 invariant_of-self g c =
     let is = set-outputs c.self.inside.0.0.hashed.store.network c.set_output.new.self.network c.args.k c.args.s c.set_output.ensures.network in
-    (strashed-outputs g.G.Gates.KIND g.G.Gates.form c.self.inside.0.0.hashed.store.network c.set_output.new.self.network is c.self.invariant.0, room-outputs c.self.inside.0.0.hashed (record { store = c.set_output.new.self; room = c.self.inside.0.0.hashed.room; marks = c.self.inside.0.0.hashed.marks }) is refl refl c.set_output.ensures.spare c.self.invariant.1)
+    (strashed-outputs g.G.Gates.KIND g.G.Gates.form c.self.inside.0.0.hashed.store.network c.set_output.new.self.network is c.self.invariant.0, room-outputs c.self.inside.0.0.hashed c.set_output.new.self is c.set_output.ensures.spare c.self.invariant.1)
 
 pub returns-clause-network : goal.returns-clause-network
 returns-clause-network g c = ap (of_kind g.G.Gates.KIND) c.set_output.ensures.network ∙ output-kind g.G.Gates.KIND c.self.inside.0.0.hashed.store.network c.args.k c.args.s ∙ ap (λ n. with_output n.core.network c.args.k c.args.s) c.self.view_is

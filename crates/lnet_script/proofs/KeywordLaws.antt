@@ -61,11 +61,13 @@ read_format_again reads.Blif = refl
 read_format_again reads.Bench = refl
 
 pub write_format_is : (word : List ℕ) (f : WriteFormat) → write_format_of word ≡ Some f → word ≡ write_word f
-write_format_is word f e = sym ((bytes_eq-Decides (write_word f) word).0 (found_passes (λ f. bytes_eq (write_word f) word) (writes.Aag ∷ writes.Aig ∷ []) f e))
+write_format_is word f e = sym ((bytes_eq-Decides (write_word f) word).0 (found_passes (λ f. bytes_eq (write_word f) word) (writes.Aag ∷ writes.Aig ∷ writes.Blif ∷ writes.Bench ∷ []) f e))
 
 pub write_format_again : (f : WriteFormat) → write_format_of (write_word f) ≡ Some f
 write_format_again writes.Aag = refl
 write_format_again writes.Aig = refl
+write_format_again writes.Blif = refl
+write_format_again writes.Bench = refl
 
 pub word_is : {A : Type 0} (text : List ℕ) (x : A) (word : List ℕ) (y : A) → if_word text x word ≡ Some y → (word ≡ text) × (x ≡ y)
 word_is text x word y e =

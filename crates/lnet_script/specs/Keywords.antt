@@ -49,7 +49,7 @@ abbrev pub read_format_of : List ℕ → Option ReadFormat
 read_format_of word = find (λ f. bytes_eq (read_word f) word) (reads.Aiger ∷ reads.Blif ∷ reads.Bench ∷ [])
 
 abbrev pub write_format_of : List ℕ → Option WriteFormat
-write_format_of word = find (λ f. bytes_eq (write_word f) word) (writes.Aag ∷ writes.Aig ∷ [])
+write_format_of word = find (λ f. bytes_eq (write_word f) word) (writes.Aag ∷ writes.Aig ∷ writes.Blif ∷ writes.Bench ∷ [])
 
 abbrev pub view_of : List ℕ → Option ViewSpec
 view_of word = if_word (codes "depth") views.Depth word

@@ -31,6 +31,8 @@ read_word reads.Bench = codes "bench"
 abbrev pub write_word : WriteFormat → List ℕ
 write_word writes.Aag = codes "aag"
 write_word writes.Aig = codes "aig"
+write_word writes.Blif = codes "blif"
+write_word writes.Bench = codes "bench"
 
 -- the word of a signal: its node's number, behind `!` where it is complemented
 abbrev pub signal_word : Signal → List ℕ

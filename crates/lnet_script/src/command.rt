@@ -22,6 +22,10 @@ pub enum WriteFormat {
     Aag,
     /// `aig`: binary AIGER.
     Aig,
+    /// `blif`: the Berkeley Logic Interchange Format.
+    Blif,
+    /// `bench`: BENCH.
+    Bench,
 }
 
 /// What a view is asked for a node.

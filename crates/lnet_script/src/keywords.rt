@@ -76,6 +76,8 @@ pub(crate) fn write_format_named(word: &[u8]) -> Result<WriteFormat, Refusal>
     match word {
         b"aag" => Ok(WriteFormat::Aag),
         b"aig" => Ok(WriteFormat::Aig),
+        b"blif" => Ok(WriteFormat::Blif),
+        b"bench" => Ok(WriteFormat::Bench),
         _ => Err(Refusal::NoCommand),
     }
 }

@@ -5,6 +5,7 @@ pub mod Chain
 pub mod Keeping
 pub mod Places
 pub mod Placed
+pub mod Texts
 pub mod Accepted
 pub mod Origins
 pub mod Statuses

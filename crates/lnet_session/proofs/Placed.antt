@@ -1,15 +1,14 @@
 -- What a command that puts a network in place, and one that writes it, are found to have done.
 use Rattle.std.proofs.Common.{◌≡◌, ℕ, ◌≤◌, Bool, List, length, Option, Some, None, Result, Ok, Err, refl, sym, ap, subst, ◌∙◌}
-use Rattle.std.specs.Prelude.{IfOk, OnOk}
+use Rattle.std.specs.Prelude.{IfOk, OnOk, map}
 use Rattle.lnet_gates.specs.declared.gate.Kind.{Kind}
-use Rattle.lnet_gates.specs.declared.gate.Kind.TheVariants.{Aig}
 use Rattle.lnet_model.specs.Networks.{NetworkValue}
 use Rattle.lnet_model.specs.Values.{network_outputs}
 use Rattle.lnet_edge.specs.Outside.{Contents, file_limit}
 use Rattle.lnet_edge.specs.Circuits.{CircuitValue}
 use Rattle.lnet_edge.specs.Values.{circuit_outputs}
 use Rattle.lnet_aiger.specs.Texts.{input_names, output_names}
-use Rattle.lnet_aiger.specs.Written.{MeansSame}
+use Rattle.lnet_naming.specs.Settling.{input_labels, output_labels}
 use Rattle.lnet_build.specs.Built.{names_of}
 use Rattle.lnet_export.specs.Exported.{exported}
 use Rattle.lnet_any.specs.Forms.{form_of}
@@ -24,8 +23,8 @@ use Rattle.lnet_subscriptions.specs.Rolls.{all_shelved}
 use Rattle.lnet_session.specs.declared.session.Stop.{Stop}
 use Rattle.lnet_session.specs.States.{Held, State}
 use Rattle.lnet_session.specs.Made.{IsMadeOf}
-use Rattle.lnet_session.specs.Formats.{MeansIn, reader_of, text_in}
-use Rattle.lnet_session.specs.Effects.{AgreeOutputs, Converts, Generates, IsFull, MeansHeld, Places, PutsInPlace, Reads, SaysCounts, Writes, source_of, with_content, written_text}
+use Rattle.lnet_session.specs.Formats.{HasGatesOf, IsTextOf, MeansIn, inputs_in, outputs_in, text_in}
+use Rattle.lnet_session.specs.Effects.{AgreeOutputs, Converts, Generates, IsFull, MeansHeld, Places, PutsInPlace, Reads, SaysCounts, Writes, held_inputs_in, held_outputs_in, source_of, with_content, written_text}
 
 -- ---- a network put in place
 
@@ -125,19 +124,27 @@ converts (Ok answer) old new h kind c held is outputs p = subst (λ (o : Option 
 
 -- ---- a network written
 
-means-in : (format : WriteFormat) (text : List ℕ) (c : CircuitValue) (m : MeansSame text c) → MeansIn (reader_of format) text m.circuit
-means-in writes.Aag text c m = m.means
-means-in writes.Aig text c m = m.means
+inputs-named : (format : WriteFormat) (h : Held) (c : CircuitValue) → c ≡ exported h.network h.names → input_names c.inputs ≡ h.names.inputs → inputs_in format c ≡ held_inputs_in format h
+inputs-named writes.Aag h c exports ins = ins
+inputs-named writes.Aig h c exports ins = ins
+inputs-named writes.Blif h c exports ins = ap (λ (d : CircuitValue). map Some (input_labels d.inputs)) exports
+inputs-named writes.Bench h c exports ins = ap (λ (d : CircuitValue). map Some (input_labels d.inputs)) exports
 
-pub writes-held : (format : WriteFormat) (o : Option Held) (h : Held) (before after : Option Contents) (name : List ℕ) (c : CircuitValue) (text : List ℕ) (n : ℕ) → o ≡ Some h → h.network.kind ≡ Aig → c ≡ exported h.network h.names → ((a : ℕ → Bool) → circuit_outputs c a ≡ network_outputs h.network a) → input_names c.inputs ≡ h.names.inputs → output_names c.outputs ≡ h.names.outputs → text ≡ text_in format c → MeansSame text c → n ≡ length text → after ≡ with_content before name text → Writes format o before name (reply.Wrote n) after
+outputs-named : (format : WriteFormat) (h : Held) (c : CircuitValue) → c ≡ exported h.network h.names → output_names c.outputs ≡ h.names.outputs → outputs_in format c ≡ held_outputs_in format h
+outputs-named writes.Aag h c exports outs = outs
+outputs-named writes.Aig h c exports outs = outs
+outputs-named writes.Blif h c exports outs = ap (λ (d : CircuitValue). map Some (output_labels d.inputs d.outputs)) exports
+outputs-named writes.Bench h c exports outs = ap (λ (d : CircuitValue). map Some (output_labels d.inputs d.outputs)) exports
+
+pub writes-held : (format : WriteFormat) (o : Option Held) (h : Held) (before after : Option Contents) (name : List ℕ) (c : CircuitValue) (text : List ℕ) (n : ℕ) → o ≡ Some h → HasGatesOf format h.network.kind → c ≡ exported h.network h.names → ((a : ℕ → Bool) → circuit_outputs c a ≡ network_outputs h.network a) → input_names c.inputs ≡ h.names.inputs → output_names c.outputs ≡ h.names.outputs → text ≡ text_in format c → IsTextOf format text c → n ≡ length text → after ≡ with_content before name text → Writes format o before name (reply.Wrote n) after
 writes-held format o h before after name c text n is kind exports outputs ins outs text-is m count stored =
     let t : text ≡ written_text format h = text-is ∙ ap (text_in format) exports in
-    let means : MeansHeld (reader_of format) text h = record {
+    let means : MeansHeld format text h = record {
       circuit = m.circuit;
-      means = means-in format text c m;
+      means = m.means;
       outputs = λ a. m.outputs a ∙ outputs a;
-      inputs_named = m.inputs_named ∙ ins;
-      outputs_named = m.outputs_named ∙ outs;
+      inputs_named = m.inputs_named ∙ inputs-named format h c exports ins;
+      outputs_named = m.outputs_named ∙ outputs-named format h c exports outs;
     } in
     subst (λ (o : Option Held). Writes format o before name (reply.Wrote n) after) (sym is)
-    (kind, count ∙ ap (λ (ts : List ℕ). length ts) t, stored ∙ ap (with_content before name) t, subst (λ ts. MeansHeld (reader_of format) ts h) t means)
+    (kind, count ∙ ap (λ (ts : List ℕ). length ts) t, stored ∙ ap (with_content before name) t, subst (λ ts. MeansHeld format ts h) t means)

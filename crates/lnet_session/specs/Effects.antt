@@ -3,7 +3,6 @@ use Rattle.std.specs.Prelude.{◌≡◌, ◌≢◌, ℕ, ◌≤◌, ◌<◌, Boo
 use Rattle.std.specs.FinMap.{get, insert}
 use Rattle.lnet_gates.specs.declared.signal.Signal.{Signal}
 use Rattle.lnet_gates.specs.declared.gate.Kind.{Kind}
-use Rattle.lnet_gates.specs.declared.gate.Kind.TheVariants.{Aig}
 use Rattle.lnet_model.specs.Networks.{NetworkValue, IsLive, gate_count}
 use Rattle.lnet_model.specs.Dags.{NUMBERS}
 use Rattle.lnet_model.specs.Levels.{level, depth}
@@ -25,6 +24,8 @@ use Rattle.lnet_script.specs.declared.command.Command.TheVariants as command
 use Rattle.lnet_script.specs.declared.command.Query.TheVariants.{Level}
 use Rattle.lnet_script.specs.declared.command.ReadFormat.{ReadFormat}
 use Rattle.lnet_script.specs.declared.command.WriteFormat.{WriteFormat}
+use Rattle.lnet_script.specs.declared.command.WriteFormat.TheVariants as writes
+use Rattle.lnet_naming.specs.Settling.{input_labels, output_labels}
 use Rattle.lnet_replies.specs.declared.reply.Unmet.TheVariants as unmet
 use Rattle.lnet_replies.specs.declared.reply.Reply.{Reply}
 use Rattle.lnet_replies.specs.declared.reply.Reply.TheVariants as reply
@@ -34,7 +35,7 @@ use Rattle.lnet_replies.specs.Texts.{bits_word}
 use Rattle.lnet_simulate.specs.Assignments.{assignment}
 use Rattle.lnet_session.specs.Made.{IsMadeOf}
 use Rattle.lnet_session.specs.Merging.{MergesIn}
-use Rattle.lnet_session.specs.Formats.{IsMalformed, MeansIn, reader_of, text_in}
+use Rattle.lnet_session.specs.Formats.{HasGatesOf, IsMalformed, MeansIn, reader_of, text_in}
 
 -- where the contents are told, the name holds these bytes
 abbrev pub Holds : Option Contents → List ℕ → List ℕ → Type 0
@@ -94,19 +95,32 @@ with_content (Some m) name bytes = Some (insert m name bytes)
 abbrev pub written_text : WriteFormat → Held → List ℕ
 written_text format h = text_in format (exported h.network h.names)
 
--- the bytes mean a circuit in the format, with the names, whose outputs are the network's under each assignment
-pub record MeansHeld (format : ReadFormat) (bytes : List ℕ) (h : Held) : Type 0 where
+-- the names of the network's inputs and of its outputs in that text: their own in AIGER, else those that are settled
+abbrev pub held_inputs_in : WriteFormat → Held → List (Option (List ℕ))
+held_inputs_in writes.Aag h = h.names.inputs
+held_inputs_in writes.Aig h = h.names.inputs
+held_inputs_in writes.Blif h = map Some (input_labels (exported h.network h.names).inputs)
+held_inputs_in writes.Bench h = map Some (input_labels (exported h.network h.names).inputs)
+
+abbrev pub held_outputs_in : WriteFormat → Held → List (Option (List ℕ))
+held_outputs_in writes.Aag h = h.names.outputs
+held_outputs_in writes.Aig h = h.names.outputs
+held_outputs_in writes.Blif h = map Some (output_labels (exported h.network h.names).inputs (exported h.network h.names).outputs)
+held_outputs_in writes.Bench h = map Some (output_labels (exported h.network h.names).inputs (exported h.network h.names).outputs)
+
+-- the bytes mean a circuit in the format, with these names, whose outputs are the network's under each assignment
+pub record MeansHeld (format : WriteFormat) (bytes : List ℕ) (h : Held) : Type 0 where
   pub circuit : CircuitValue
-  pub means : MeansIn format bytes circuit
+  pub means : MeansIn (reader_of format) bytes circuit
   pub outputs : (a : ℕ → Bool) → circuit_outputs circuit a ≡ network_outputs h.network a
-  pub inputs_named : input_names circuit.inputs ≡ h.names.inputs
-  pub outputs_named : output_names circuit.outputs ≡ h.names.outputs
+  pub inputs_named : input_names circuit.inputs ≡ held_inputs_in format h
+  pub outputs_named : output_names circuit.outputs ≡ held_outputs_in format h
 
 -- writing the network, where one is in place, under this name
 abbrev pub Writes : WriteFormat → Option Held → Option Contents → List ℕ → Reply → Option Contents → Type 0
 Writes format None before name (reply.Unmet unmet.NoNetwork) after = after ≡ before
-Writes format (Some h) before name (reply.Unmet unmet.WrongKind) after = (h.network.kind ≢ Aig) × (after ≡ before)
-Writes format (Some h) before name (reply.Wrote n) after = (h.network.kind ≡ Aig) × (n ≡ length (written_text format h)) × (after ≡ with_content before name (written_text format h)) × MeansHeld (reader_of format) (written_text format h) h
+Writes format (Some h) before name (reply.Unmet unmet.WrongKind) after = (HasGatesOf format h.network.kind → ⊥) × (after ≡ before)
+Writes format (Some h) before name (reply.Wrote n) after = HasGatesOf format h.network.kind × (n ≡ length (written_text format h)) × (after ≡ with_content before name (written_text format h)) × MeansHeld format (written_text format h) h
 Writes format _ before name _ after = ⊥
 
 -- attaching the first view of the spec's kind on the shelf

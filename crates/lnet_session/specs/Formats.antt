@@ -1,12 +1,18 @@
 -- The formats of a script: what a content means in one that is read, which rule it breaks, and what is written in one.
-use Rattle.std.specs.Prelude.{ℕ, List}
+use Rattle.std.specs.Prelude.{◌≡◌, ℕ, Bool, List, Option, Some, map}
+use Rattle.lnet_gates.specs.declared.gate.Kind.{Kind}
+use Rattle.lnet_gates.specs.declared.gate.Kind.TheVariants.{Aig}
 use Rattle.lnet_edge.specs.Circuits.{CircuitValue}
+use Rattle.lnet_edge.specs.Values.{circuit_outputs}
 use Rattle.lnet_edge.specs.declared.fault.Malformed.{Malformed}
 use Rattle.lnet_aiger.specs.Grammar as aiger
 use Rattle.lnet_aiger.specs.Faults as aiger_faults
-use Rattle.lnet_aiger.specs.Texts.{ascii_text, binary_text}
+use Rattle.lnet_aiger.specs.Texts.{ascii_text, binary_text, input_names, output_names}
 use Rattle.lnet_bench.specs.Meanings as bench
+use Rattle.lnet_benchwriter.specs.Texts.{bench_text}
 use Rattle.lnet_blif.specs.Meanings as blif
+use Rattle.lnet_blifwriter.specs.Texts.{blif_text}
+use Rattle.lnet_naming.specs.Settling.{input_labels, output_labels}
 use Rattle.lnet_script.specs.declared.command.ReadFormat.{ReadFormat}
 use Rattle.lnet_script.specs.declared.command.ReadFormat.TheVariants as reads
 use Rattle.lnet_script.specs.declared.command.WriteFormat.{WriteFormat}
@@ -33,8 +39,44 @@ pub record IsMalformed (format : ReadFormat) (bytes : List ℕ) (m : Malformed) 
 abbrev pub reader_of : WriteFormat → ReadFormat
 reader_of writes.Aag = reads.Aiger
 reader_of writes.Aig = reads.Aiger
+reader_of writes.Blif = reads.Blif
+reader_of writes.Bench = reads.Bench
+
+-- the format has And gates alone
+abbrev pub HasAndsAlone : WriteFormat → Type 0
+HasAndsAlone writes.Aag = Unit {0}
+HasAndsAlone writes.Aig = Unit {0}
+HasAndsAlone writes.Blif = ⊥
+HasAndsAlone writes.Bench = ⊥
+
+-- the format has the gates of the kind
+abbrev pub HasGatesOf : WriteFormat → Kind → Type 0
+HasGatesOf format kind = HasAndsAlone format → kind ≡ Aig
 
 -- the text of a circuit in the format
 abbrev pub text_in : WriteFormat → CircuitValue → List ℕ
 text_in writes.Aag c = ascii_text c
 text_in writes.Aig c = binary_text c
+text_in writes.Blif c = blif_text c
+text_in writes.Bench c = bench_text c
+
+-- the names of inputs and of outputs in that text: their own in AIGER, else those that are settled
+abbrev pub inputs_in : WriteFormat → CircuitValue → List (Option (List ℕ))
+inputs_in writes.Aag c = input_names c.inputs
+inputs_in writes.Aig c = input_names c.inputs
+inputs_in writes.Blif c = map Some (input_labels c.inputs)
+inputs_in writes.Bench c = map Some (input_labels c.inputs)
+
+abbrev pub outputs_in : WriteFormat → CircuitValue → List (Option (List ℕ))
+outputs_in writes.Aag c = output_names c.outputs
+outputs_in writes.Aig c = output_names c.outputs
+outputs_in writes.Blif c = map Some (output_labels c.inputs c.outputs)
+outputs_in writes.Bench c = map Some (output_labels c.inputs c.outputs)
+
+-- the bytes mean a circuit in the format, with these names, and with the outputs of c under each assignment of the inputs
+pub record IsTextOf (format : WriteFormat) (bytes : List ℕ) (c : CircuitValue) : Type 0 where
+  pub circuit : CircuitValue
+  pub means : MeansIn (reader_of format) bytes circuit
+  pub outputs : (a : ℕ → Bool) → circuit_outputs circuit a ≡ circuit_outputs c a
+  pub inputs_named : input_names circuit.inputs ≡ inputs_in format c
+  pub outputs_named : output_names circuit.outputs ≡ outputs_in format c

@@ -1,6 +1,5 @@
 -- One command: the state, the contents and the text, at each of its four ends.
 use Rattle.std.specs.Prelude.{◌≡◌, ◌⊎◌, ℕ, ◌≤◌, List, ◌++◌, length, take, Option, Some, None}
-use Rattle.lnet_gates.specs.declared.gate.Kind.TheVariants.{Aig}
 use Rattle.lnet_model.specs.Answers.{IsSpec}
 use Rattle.lnet_edge.specs.Outside.{Contents, Call, Rose, call_of}
 use Rattle.lnet_edge.specs.Circuits.{CircuitValue}
@@ -13,6 +12,8 @@ use Rattle.lnet_script.specs.declared.command.Command.TheVariants as command
 use Rattle.lnet_script.specs.Spelling.{IsBetween}
 use Rattle.lnet_session.specs.declared.stepping.StepEnd.{StepEnd}
 use Rattle.lnet_session.specs.declared.stepping.StepEnd.TheVariants as ends
+use Rattle.lnet_script.specs.declared.command.WriteFormat.{WriteFormat}
+use Rattle.lnet_session.specs.Formats.{HasGatesOf}
 use Rattle.lnet_session.specs.States.{Held, State}
 use Rattle.lnet_session.specs.Effects.{AgreeOutputs, Effect}
 
@@ -33,15 +34,15 @@ own_call (command.Read format name kind) = Some (call_of Fetch name)
 own_call (command.Write format name) = Some (call_of Store name)
 own_call _ = None
 
--- a network of And gates is in place
-abbrev pub CanWrite : Option Held → Type 0
-CanWrite None = ⊥
-CanWrite (Some h) = h.network.kind ≡ Aig
+-- a network is in place whose gates the format has
+abbrev pub CanWrite : WriteFormat → Option Held → Type 0
+CanWrite format None = ⊥
+CanWrite format (Some h) = HasGatesOf format h.network.kind
 
 -- no cause that comes before that call keeps the command from it
 abbrev pub MakesCall : Command → State → Type 0
 MakesCall (command.Read format name kind) state = Unit {0}
-MakesCall (command.Write format name) state = CanWrite state.held
+MakesCall (command.Write format name) state = CanWrite format state.held
 MakesCall _ state = ⊥
 
 -- the sink, where it tells its bytes, grew by this text

@@ -1,12 +1,12 @@
 //! The commands on the network in place that leave it as it is: on its views, and what is told of it.
 
-ghost use Rattle.std.specs.Prelude.{◌≡◌, ◌≤◌, ◌<◌, ◌-◌, ◌^◌, IfOk, IfErr, OnErr, IsErrOf, Some};
+ghost use Rattle.std.specs.Prelude.{◌≡◌, ◌≤◌, ◌<◌, ◌+◌, ◌-◌, ◌^◌, ◌↔◌, All, IfOk, IfErr, IsTrue, OnErr, IsErrOf, Some, false, length};
 ghost use Rattle.lnet_model.specs.Answers.{IsSpec};
 ghost use Rattle.lnet_edge.specs.Outside.{Rose, call_of};
 ghost use Rattle.lnet_edge.specs.declared.outside.Direction.TheVariants.{Store};
-ghost use Rattle.lnet_aiger.specs.Texts.{IsWritable};
-ghost use Rattle.lnet_aiger.specs.Written.{MeansSame};
-ghost use Rattle.lnet_session.specs.Formats.{text_in};
+ghost use Rattle.lnet_edge.specs.Plain.{IsPlain};
+ghost use Rattle.lnet_edge.specs.declared.circuit.Rule.TheVariants.{And};
+ghost use Rattle.lnet_session.specs.Formats.{HasAndsAlone, HasGatesOf, IsTextOf, text_in};
 ghost use Rattle.lnet_session.specs.Effects.{AsksLevel, Counts, Prints, PutsBack, Views, Writes};
 ghost use Rattle.lnet_session.specs.Sessions.{IsGood, state_of};
 ghost use Rattle.lnet_session.specs.Steps.{CanWrite};
@@ -23,15 +23,29 @@ use lnet_store::View;
 use lnet_subscriptions::{AskError, AttachError, DropError};
 use std::alloc::{AllocError, Global};
 
-/// The text of a circuit of Ands in the format.
+/// Whether the format has the gates of the kind: AIGER has And alone.
+fn has_gates_of(format: WriteFormat, kind: Kind) -> bool
+    ensures { IsTrue result ↔ HasGatesOf format kind }
+{
+    match format {
+        WriteFormat::Aag | WriteFormat::Aig => kind == Kind::Aig,
+        WriteFormat::Blif | WriteFormat::Bench => true,
+    }
+}
+
+/// The text of a circuit in the format.
 fn text_of(alloc: Global, format: WriteFormat, circuit: &Circuit) -> Result<Vec<u8>, AllocError>
-    requires { IsWritable circuit.now }
+    requires plain { IsPlain circuit.now.equations }
+    requires ands { HasAndsAlone format → All (λ e. e.rule ≡ And false) circuit.now.equations }
+    requires few { length circuit.now.inputs + length circuit.now.equations ≤ 1048576 }
     ensures text { IfOk result (λ v. v.items ≡ text_in format circuit.now) }
-    ensures means { IfOk result (λ v. MeansSame v.items circuit.now) }
+    ensures means { IfOk result (λ v. IsTextOf format v.items circuit.now) }
 {
     match format {
         WriteFormat::Aag => write_ascii(alloc, circuit),
         WriteFormat::Aig => write_binary(alloc, circuit),
+        WriteFormat::Blif => lnet_blifmeans::write(alloc, circuit),
+        WriteFormat::Bench => lnet_benchvalues::write(alloc, circuit),
     }
 }
 
@@ -137,14 +151,14 @@ impl Session {
         ensures writes { IfOk result (λ answer. Writes format (state_of (λ b. ⟦<dyn View as View>⟧ b.vtable) self.now).held (F.contents files.old) name.now answer (F.contents files.new)) }
         ensures err { OnErr result (F.contents files.new ≡ F.contents files.old) }
         ensures later { F.faults files.old ≤ F.faults files.new }
-        ensures allowed { IsErrOf result Stop.Fault → CanWrite (state_of (λ b. ⟦<dyn View as View>⟧ b.vtable) self.now).held }
+        ensures allowed { IsErrOf result Stop.Fault → CanWrite format (state_of (λ b. ⟦<dyn View as View>⟧ b.vtable) self.now).held }
         ensures fault { IsErrOf result Stop.Fault → Rose (F.faults files.old) (F.faults files.new) }
         ensures last { IsErrOf result Stop.Fault → F.last files.new ≡ Some (call_of Store name.now) }
     {
         let Some(place) = &self.place else {
             return Ok(Reply::Unmet(Unmet::NoNetwork));
         };
-        if place.network.kind() != Kind::Aig {
+        if !has_gates_of(format, place.network.kind()) {
             return Ok(Reply::Unmet(Unmet::WrongKind));
         }
         let Ok(circuit) = export(alloc, &place.network, &place.names) else {

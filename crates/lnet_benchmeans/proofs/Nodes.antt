@@ -15,7 +15,7 @@ use Rattle.lnet_naming.specs.Settling.{made_name, settle, settle_all, input_name
 use Rattle.lnet_nodes.specs.Nodes.{name_at, label_of, node_name}
 use Rattle.lnet_benchmeans.proofs.Plain.{IsOneOf}
 
-eqb_same : (p q : ℕ) → p ≡ q → eqb p q ≡ true
+pub eqb_same : (p q : ℕ) → p ≡ q → eqb p q ≡ true
 eqb_same p q e = elim (eqb_tells p q) as (λ _. eqb p q ≡ true) [ inl h ↦ h.0 | inr h ↦ absurd (h.1 e) ]
 
 -- the place of an input that drives the wire

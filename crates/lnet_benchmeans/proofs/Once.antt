@@ -29,7 +29,7 @@ length-input_names : (ps : List InputPort) → length (input_names ps) ≡ lengt
 length-input_names [] = refl
 length-input_names (p ∷ ps) = ap suc (length-input_names ps)
 
-length-output_names : (ps : List OutputPort) → length (output_names ps) ≡ length ps
+pub length-output_names : (ps : List OutputPort) → length (output_names ps) ≡ length ps
 length-output_names [] = refl
 length-output_names (p ∷ ps) = ap suc (length-output_names ps)
 
@@ -53,7 +53,7 @@ ports_apart m n kept first second x y (inr p) (inr q) e = false≢true (sym q.1 
 -- ---- names of outputs that are driven
 
 -- a statement of an output drives its name
-abbrev shows : (WireRef → Rule) → (WireRef → List (List ℕ)) → List ℕ → WireRef → StatementValue
+abbrev pub shows : (WireRef → Rule) → (WireRef → List (List ℕ)) → List ℕ → WireRef → StatementValue
 shows rule operands name r = Gate name (rule r) (operands r)
 
 all_shown : (P : List ℕ → Type 0) (rule : WireRef → Rule) (operands : WireRef → List (List ℕ)) (names : List (List ℕ)) (ps : List OutputPort) → AllByRecursion P names → AllByRecursion P (driven_names (output_statements (shows rule operands) names ps))

@@ -40,7 +40,7 @@ last_show P rule operands (name ∷ names) (p ∷ ps) = last_show P rule operand
 
 -- ---- names that are driven
 
-last_drive : (rule : WireRef → Rule) (operands : WireRef → List (List ℕ)) (names : List (List ℕ)) (ps : List OutputPort) → length names ≡ length ps → driven_names (output_statements (shows rule operands) names ps) ≡ names
+pub last_drive : (rule : WireRef → Rule) (operands : WireRef → List (List ℕ)) (names : List (List ℕ)) (ps : List OutputPort) → length names ≡ length ps → driven_names (output_statements (shows rule operands) names ps) ≡ names
 last_drive rule operands [] [] same = refl
 last_drive rule operands [] (p ∷ ps) same = refl
 last_drive rule operands (name ∷ names) [] same = absurd cc

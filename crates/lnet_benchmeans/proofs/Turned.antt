@@ -75,6 +75,9 @@ seen_mapped [] w one = absurd one
 seen_mapped (m ∷ ms) w (inl is) = ap (λ (v : ℕ). is_seen (map (made_name 99) (m ∷ ms)) (made_name 99 v)) is ∙ first_seen (map (made_name 99) ms) (made_name 99 m)
 seen_mapped (m ∷ ms) w (inr one) = more_seen (map (made_name 99) ms) (made_name 99 m) (made_name 99 w) (seen_mapped ms w one)
 
+pub turned_one : (turned : ℕ → Bool) (ins : List ℕ) (w : ℕ) → IsOneOf ins w → turned w ≡ true → IsOneOf (ascending (filter turned ins)) w
+turned_one turned ins w one is = one_folded [] (filter turned ins) w (inr (one_kept turned ins w is one))
+
 -- the complement of an input that is used so has its name
 pub turned_seen : (turned : ℕ → Bool) (ins : List ℕ) (w : ℕ) → IsOneOf ins w → turned w ≡ true → is_seen (map (made_name 99) (ascending (filter turned ins))) (made_name 99 w) ≡ true
-turned_seen turned ins w one is = seen_mapped (ascending (filter turned ins)) w (one_folded [] (filter turned ins) w (inr (one_kept turned ins w is one)))
+turned_seen turned ins w one is = seen_mapped (ascending (filter turned ins)) w (turned_one turned ins w one is)

@@ -10,3 +10,5 @@ pub mod WordOutputs
 pub mod TextValues
 pub mod Counts
 pub mod TextMeans
+pub mod Taken
+pub mod Kept

@@ -26,8 +26,8 @@ pub fn statements_give_values()
     ensures outputs { (ss : List StatementValue) (a : ℕ → Bool) → circuit_outputs (circuit_of ss) a ≡ map (name_value ss a) (shown_names ss) }
 {}
 
-/// The text of a plain circuit means the circuit of its statements, where its wires are together fewer than a circuit may have,
-/// and where the text is no longer than a file may be.
+/// The text of a plain circuit means the circuit of its statements where the text is no longer than a file may be, and also where
+/// the wires of that circuit are fewer than a circuit may have.
 pub fn written_text_means()
     ensures in_file { (c : CircuitValue) → HasNames c → HasWires c → IsCircuit c → IsPlain c.equations → length (bench_text c) ≤ file_limit → Means (bench_text c) (circuit_of (written_statements c)) }
     ensures with_room { (c : CircuitValue) → HasNames c → HasWires c → IsCircuit c → IsPlain c.equations → HasRoom c → Means (bench_text c) (circuit_of (written_statements c)) }

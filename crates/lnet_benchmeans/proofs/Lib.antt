@@ -9,4 +9,9 @@ pub mod Plain
 pub mod Nodes
 pub mod Tables
 pub mod TableForm
+pub mod Shown
 pub mod TableTexts
+pub mod Turned
+pub mod Words
+pub mod WordForm
+pub mod WordTexts

@@ -15,11 +15,11 @@ use Rattle.lnet_naming.specs.Settling.{made_name, settle, settle_all, input_name
 use Rattle.lnet_nodes.specs.Nodes.{name_at, label_of, node_name}
 use Rattle.lnet_benchmeans.proofs.Plain.{IsOneOf}
 
-eqb_same : (p q : ℕ) → p ≡ q → eqb p q ≡ true
+pub eqb_same : (p q : ℕ) → p ≡ q → eqb p q ≡ true
 eqb_same p q e = elim (eqb_tells p q) as (λ _. eqb p q ≡ true) [ inl h ↦ h.0 | inr h ↦ absurd (h.1 e) ]
 
 -- the place of an input that drives the wire
-place_some : (i w : ℕ) (ps : List InputPort) → IsOneOf (input_wires ps) w → (k : ℕ) × (k < length ps) × (input_place i w ps ≡ Some (i + k))
+pub place_some : (i w : ℕ) (ps : List InputPort) → IsOneOf (input_wires ps) w → (k : ℕ) × (k < length ps) × (input_place i w ps ≡ Some (i + k))
 place_some i w [] one = absurd one
 place_some i w (p ∷ ps) one = elim (eqb_tells p.wire.0 w) as (λ _. (k : ℕ) × (k < length (p ∷ ps)) × (input_place i w (p ∷ ps) ≡ Some (i + k))) [
   | inl h ↦
@@ -51,7 +51,7 @@ pub length_labels : (letter place : ℕ) (kept : List (List ℕ)) (names : List 
 length_labels letter place kept [] = refl
 length_labels letter place kept (name ∷ names) = ap suc (length_labels letter (place + 1) (settle letter place kept name).1 names)
 
-length_names : (ps : List InputPort) → length (input_names ps) ≡ length ps
+pub length_names : (ps : List InputPort) → length (input_names ps) ≡ length ps
 length_names [] = refl
 length_names (p ∷ ps) = ap suc (length_names ps)
 

@@ -29,7 +29,7 @@ length-input_names : (ps : List InputPort) → length (input_names ps) ≡ lengt
 length-input_names [] = refl
 length-input_names (p ∷ ps) = ap suc (length-input_names ps)
 
-length-output_names : (ps : List OutputPort) → length (output_names ps) ≡ length ps
+pub length-output_names : (ps : List OutputPort) → length (output_names ps) ≡ length ps
 length-output_names [] = refl
 length-output_names (p ∷ ps) = ap suc (length-output_names ps)
 
@@ -53,7 +53,7 @@ ports_apart m n kept first second x y (inr p) (inr q) e = false≢true (sym q.1 
 -- ---- names of outputs that are driven
 
 -- a statement of an output drives its name
-abbrev shows : (WireRef → Rule) → (WireRef → List (List ℕ)) → List ℕ → WireRef → StatementValue
+abbrev pub shows : (WireRef → Rule) → (WireRef → List (List ℕ)) → List ℕ → WireRef → StatementValue
 shows rule operands name r = Gate name (rule r) (operands r)
 
 all_shown : (P : List ℕ → Type 0) (rule : WireRef → Rule) (operands : WireRef → List (List ℕ)) (names : List (List ℕ)) (ps : List OutputPort) → AllByRecursion P names → AllByRecursion P (driven_names (output_statements (shows rule operands) names ps))
@@ -66,7 +66,7 @@ differ_shown rule operands [] ps differ = tt
 differ_shown rule operands (name ∷ names) [] differ = tt
 differ_shown rule operands (name ∷ names) (p ∷ ps) differ = (all_shown (λ y. name ≢ y) rule operands names ps differ.0, differ_shown rule operands names ps differ.1)
 
-inputs_drive : (names : List (List ℕ)) → driven_names (map Input names) ≡ names
+pub inputs_drive : (names : List (List ℕ)) → driven_names (map Input names) ≡ names
 inputs_drive [] = refl
 inputs_drive (name ∷ names) = ap (λ (xs : List (List ℕ)). name ∷ xs) (inputs_drive names)
 
@@ -74,7 +74,7 @@ outputs_drive_none : (names : List (List ℕ)) → driven_names (map Output name
 outputs_drive_none [] = refl
 outputs_drive_none (name ∷ names) = outputs_drive_none names
 
-ports_drive : (c : CircuitValue) → driven_names (port_statements c) ≡ input_labels c.inputs ++ []
+pub ports_drive : (c : CircuitValue) → driven_names (port_statements c) ≡ input_labels c.inputs ++ []
 ports_drive c =
     names_both (map Input (input_labels c.inputs)) (map Output (output_labels c.inputs c.outputs))
     ∙ ap (λ (xs : List (List ℕ)). xs ++ driven_names (map Output (output_labels c.inputs c.outputs))) (inputs_drive (input_labels c.inputs))

@@ -1,6 +1,6 @@
 //! Laws of the circuits of written texts.
 
-ghost use Rattle.std.specs.Prelude.{◌≡◌, true, List};
+ghost use Rattle.std.specs.Prelude.{◌≡◌, true, false, List};
 ghost use Rattle.std.specs.List.{IsDistinct};
 ghost use Rattle.std.specs.Str.{bytes_eq};
 ghost use Rattle.lnet_edge.specs.Circuits.{CircuitValue};
@@ -32,4 +32,9 @@ pub fn ordered_statements_keep_the_rules()
 /// The statements of the text of a plain circuit whose gates have tables are ordered.
 pub fn written_tables_are_ordered()
     ensures { (c : CircuitValue) → HasNames c → HasWires c → IsCircuit c → IsPlain c.equations → has_tables c.equations ≡ true → IsOrdered (written_statements c) }
+{}
+
+/// The statements of the text of a plain circuit whose gates have words are ordered.
+pub fn written_words_are_ordered()
+    ensures { (c : CircuitValue) → HasNames c → HasWires c → IsCircuit c → IsPlain c.equations → has_tables c.equations ≡ false → IsOrdered (written_statements c) }
 {}

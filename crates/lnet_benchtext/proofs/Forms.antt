@@ -122,16 +122,16 @@ few_operands (Cover c) n gate h = absurd (false≢true gate)
 table_line-none : (label : ℕ → Option (List ℕ)) (e : EquationValue) → variables e.operands ≡ [] → table_line label e ≡ constant_line (made_name 110 e.target) (gate_table e == 1)
 table_line-none label e is = rw is (ap (λ (vs : List WireRef). constant_line (made_name 110 e.target) (number_by (gate_value e) (2 ^ length vs) == 1)) is)
 
-table_statement-none : (label : ℕ → Option (List ℕ)) (e : EquationValue) → variables e.operands ≡ [] → table_statement label e ≡ Constant (made_name 110 e.target) (gate_table e == 1)
+pub table_statement-none : (label : ℕ → Option (List ℕ)) (e : EquationValue) → variables e.operands ≡ [] → table_statement label e ≡ Constant (made_name 110 e.target) (gate_table e == 1)
 table_statement-none label e is = rw is (ap (λ (vs : List WireRef). Constant (made_name 110 e.target) (number_by (gate_value e) (2 ^ length vs) == 1)) is)
 
-abbrev operand_names : (ℕ → Option (List ℕ)) → List WireRef → List (List ℕ)
+abbrev pub operand_names : (ℕ → Option (List ℕ)) → List WireRef → List (List ℕ)
 operand_names label rs = map (λ (v : WireRef). node_name label v.wire.0) rs
 
 table_line-some : (label : ℕ → Option (List ℕ)) (e : EquationValue) (r : WireRef) (rs : List WireRef) → variables e.operands ≡ r ∷ rs → table_line label e ≡ gate_line (made_name 110 e.target) (table_word e) (operand_names label (r ∷ rs))
 table_line-some label e r rs is = rw is (ap (λ (vs : List WireRef). gate_line (made_name 110 e.target) (codes "LUT 0x" ++ (hex_digits (digit_count (length vs)) (number_by (gate_value e) (2 ^ length vs)) ++ codes " ")) (operand_names label (r ∷ rs))) is)
 
-table_statement-some : (label : ℕ → Option (List ℕ)) (e : EquationValue) (r : WireRef) (rs : List WireRef) → variables e.operands ≡ r ∷ rs → table_statement label e ≡ Gate (made_name 110 e.target) (Lut (gate_table e)) (operand_names label (r ∷ rs))
+pub table_statement-some : (label : ℕ → Option (List ℕ)) (e : EquationValue) (r : WireRef) (rs : List WireRef) → variables e.operands ≡ r ∷ rs → table_statement label e ≡ Gate (made_name 110 e.target) (Lut (gate_table e)) (operand_names label (r ∷ rs))
 table_statement-some label e r rs is = rw is (ap (λ (vs : List WireRef). Gate (made_name 110 e.target) (Lut (number_by (gate_value e) (2 ^ length vs))) (operand_names label (r ∷ rs))) is)
 
 same_spelled : (text other : List ℕ) (s t : StatementValue) → text ≡ other → s ≡ t → Spells other (t ∷ []) → Spells text (s ∷ [])

@@ -1,0 +1,14 @@
+pub mod NameValues
+pub mod PortValues
+pub mod RowValues
+pub mod Known
+pub mod TableValues
+pub mod WordValues
+pub mod Outputs
+pub mod TableOutputs
+pub mod WordOutputs
+pub mod TextValues
+pub mod Counts
+pub mod TextMeans
+pub mod Taken
+pub mod Kept

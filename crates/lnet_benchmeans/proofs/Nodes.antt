@@ -19,7 +19,7 @@ eqb_same : (p q : ℕ) → p ≡ q → eqb p q ≡ true
 eqb_same p q e = elim (eqb_tells p q) as (λ _. eqb p q ≡ true) [ inl h ↦ h.0 | inr h ↦ absurd (h.1 e) ]
 
 -- the place of an input that drives the wire
-place_some : (i w : ℕ) (ps : List InputPort) → IsOneOf (input_wires ps) w → (k : ℕ) × (k < length ps) × (input_place i w ps ≡ Some (i + k))
+pub place_some : (i w : ℕ) (ps : List InputPort) → IsOneOf (input_wires ps) w → (k : ℕ) × (k < length ps) × (input_place i w ps ≡ Some (i + k))
 place_some i w [] one = absurd one
 place_some i w (p ∷ ps) one = elim (eqb_tells p.wire.0 w) as (λ _. (k : ℕ) × (k < length (p ∷ ps)) × (input_place i w (p ∷ ps) ≡ Some (i + k))) [
   | inl h ↦

@@ -51,7 +51,7 @@ gates_named c is =
     let ts = targets c.equations in
     all_weak (λ t. AllByRecursion (λ v. v ≢ t) ins) (λ t. node_name (label_of c) t ≡ made_name 110 t) ts (gate_named c) (flipped ins ts (differ_apart ins ts (wires_differ c is)))
 
-shown_met : (L : ℕ → Type 0) (ins ts : List ℕ) → ((w : ℕ) → (IsOneOf ins w ⊎ IsOneOf ts w) → L w) → (w : ℕ) → IsOneOf (0 ∷ (ins ++ ts)) w → (w ≡ 0) ⊎ L w
+pub shown_met : (L : ℕ → Type 0) (ins ts : List ℕ) → ((w : ℕ) → (IsOneOf ins w ⊎ IsOneOf ts w) → L w) → (w : ℕ) → IsOneOf (0 ∷ (ins ++ ts)) w → (w ≡ 0) ⊎ L w
 shown_met L ins ts each w (inl zero_is) = inl zero_is
 shown_met L ins ts each w (inr one) = inr (each w (one_both ins ts w one))
 

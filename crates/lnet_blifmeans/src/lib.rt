@@ -3,4 +3,4 @@
 
 mod laws;
 
-pub use laws::names_are_driven_once;
+pub use laws::{names_are_driven_once, written_text_means};

@@ -1,0 +1,128 @@
+-- The covers of a written text are in order.
+use Rattle.std.proofs.Common.{◌≡◌, ◌≢◌, ℕ, suc, ◌+◌, ◌≤◌, ◌^◌, Bool, true, false, cond, eqb, List, [], ◌∷◌, ◌++◌, length, map, Option, codes, refl, sym, ap, subst, ◌∙◌, inl, inr, arith}
+use Rattle.std.specs.Prelude.{◌⊎◌, ◌||◌, not, flat_map}
+use Rattle.std.specs.List.{AllByRecursion, filter}
+use Rattle.std.proofs.lemmas.Bool.Decides.{eqb_tells}
+use Rattle.std.proofs.lemmas.List.{length-map}
+use Rattle.lnet_edge.specs.declared.circuit.OutputPort.{OutputPort}
+use Rattle.lnet_edge.specs.declared.circuit.WireRef.{WireRef}
+use Rattle.lnet_edge.specs.Circuits.{CircuitValue, EquationValue}
+use Rattle.lnet_edge.specs.Plain.{IsPlain}
+use Rattle.lnet_edge.specs.Wires.{input_wires, output_wires, targets, operand_wires, driven_wires, used_wires, IsCircuit}
+use Rattle.lnet_wires.specs.Naming.{is_seen}
+use Rattle.lnet_naming.specs.Settling.{made_name, input_labels, output_labels}
+use Rattle.lnet_nodes.specs.Nodes.{label_of, node_name}
+use Rattle.lnet_nodes.specs.Rows.{variables}
+use Rattle.lnet_blif.specs.Texts.{names_of}
+use Rattle.lnet_blifwriter.specs.Texts.{operand_names, row_cells}
+use Rattle.lnet_benchmeans.specs.Driving.{HasWires}
+use Rattle.lnet_benchmeans.proofs.Differing.{all_both, all_weak, all_first}
+use Rattle.lnet_benchmeans.proofs.Falling.{IsAhead}
+use Rattle.lnet_benchmeans.proofs.Plain.{IsOneOf, used_one, plain_ahead}
+use Rattle.lnet_benchmeans.proofs.Nodes.{input_named}
+use Rattle.lnet_benchmeans.proofs.Tables.{AreNamed, more_named, more_seen}
+use Rattle.lnet_benchmeans.proofs.TableForm.{gates_named, shown_met}
+use Rattle.lnet_benchmeans.proofs.TableTexts.{seen_after, seen_themselves}
+use Rattle.lnet_bliftext.specs.Written.{CoverLines, true_rows, gate_cover, output_cover, output_covers, written_covers, written_statements}
+use Rattle.lnet_bliftext.proofs.Rows.{length-row_cells}
+use Rattle.lnet_blifmeans.proofs.Shape.{cover_targets, driven_are}
+use Rattle.lnet_blifmeans.proofs.Seen.{driven_seen}
+use Rattle.lnet_blifmeans.proofs.Once.{count_outputs, targets_are, names_differ}
+use Rattle.lnet_blifmeans.proofs.Rules.{AreAhead, HasRows, IsOrderly}
+
+-- ---- gates
+
+variables_seen : (label : ℕ → Option (List ℕ)) (K : ℕ → Type 0) (known : List (List ℕ)) → AreNamed label K known → (rs : List WireRef) → AllByRecursion (λ v. (v ≡ 0) ⊎ K v) (map (λ (r : WireRef). r.wire.0) rs) → AllByRecursion (λ x. is_seen known x ≡ true) (operand_names label (variables rs))
+variables_seen label K known each [] all = tt
+variables_seen label K known each (r ∷ rs) all =
+    elim (eqb_tells r.wire.0 0) as (λ _. AllByRecursion (λ x. is_seen known x ≡ true) (operand_names label (cond (not (eqb r.wire.0 0)) (r ∷ variables rs) (variables rs)))) [
+      | inl h ↦ subst (λ (b : Bool). AllByRecursion (λ x. is_seen known x ≡ true) (operand_names label (cond (not b) (r ∷ variables rs) (variables rs)))) (sym h.0) (variables_seen label K known each rs all.1)
+      | inr h ↦ subst (λ (b : Bool). AllByRecursion (λ x. is_seen known x ≡ true) (operand_names label (cond (not b) (r ∷ variables rs) (variables rs)))) (sym h.0) (each r.wire.0 (used h.1 all.0), variables_seen label K known each rs all.1)
+    ]
+  where
+    used : r.wire.0 ≢ 0 → ((r.wire.0 ≡ 0) ⊎ K r.wire.0) → K r.wire.0
+    used apart (inl is) = absurd (apart is)
+    used apart (inr k) = k
+
+-- the covers of gates, and what stands behind them
+gates_then : (label : ℕ → Option (List ℕ)) (es : List EquationValue) (ks : List CoverLines) (known : List (List ℕ)) (K : ℕ → Type 0) → IsAhead K es → AreNamed label K known → AllByRecursion (λ t. node_name label t ≡ made_name 110 t) (targets es) → ((known' : List (List ℕ)) (L : ℕ → Type 0) → ((w : ℕ) → (K w ⊎ IsOneOf (targets es) w) → L w) → AreNamed label L known' → AreAhead known' ks) → AreAhead known (map (gate_cover label) es ++ ks)
+gates_then label [] ks known K ahead each named rest = rest known K at_end each where
+  at_end : (w : ℕ) → (K w ⊎ IsOneOf [] w) → K w
+  at_end w (inl k) = k
+  at_end w (inr one) = absurd one
+gates_then label (e ∷ es) ks known K ahead each named rest = (
+  variables_seen label K known each e.operands ahead.0,
+  gates_then label es ks (made_name 110 e.target ∷ known) (λ v. (v ≡ e.target) ⊎ K v) ahead.1 (more_named label K known e.target named.0 each) named.1 (λ known' L later. rest known' L (λ w h. later w (sooner w h))),
+)
+  where
+    sooner : (w : ℕ) → (K w ⊎ IsOneOf (targets (e ∷ es)) w) → (((w ≡ e.target) ⊎ K w) ⊎ IsOneOf (targets es) w)
+    sooner w (inl k) = inl (inr k)
+    sooner w (inr (inl is)) = inl (inl is)
+    sooner w (inr (inr one)) = inr one
+
+-- ---- outputs
+
+-- the covers of outputs, by whether they show a constant
+abbrev pub cover_showing : (ℕ → Option (List ℕ)) → List ℕ → WireRef → Bool → CoverLines
+cover_showing label name r constant = cond constant (record { operands = []; target = name; rows = cond r.complement ([] ∷ []) [] }) (record { operands = node_name label r.wire.0 ∷ []; target = name; rows = cond r.complement (codes "0") (codes "1") ∷ [] })
+
+shown_then : (label : ℕ → Option (List ℕ)) (L : ℕ → Type 0) (known : List (List ℕ)) (name : List ℕ) (r : WireRef) (ks : List CoverLines) → AreNamed label L known → ((r.wire.0 ≡ 0) ⊎ L r.wire.0) → AreAhead (name ∷ known) ks → AreAhead known (output_cover label name r ∷ ks)
+shown_then label L known name r ks each (inl is) rest = subst (λ (w : ℕ). AreAhead known (cover_showing label name r (eqb w 0) ∷ ks)) (sym is) (tt, rest)
+shown_then label L known name r ks each (inr l) rest = elim (eqb r.wire.0 0) as (λ b. AreAhead known (cover_showing label name r b ∷ ks)) [ true ↦ (tt, rest) | false ↦ ((each r.wire.0 l, tt), rest) ]
+
+outputs_last : (label : ℕ → Option (List ℕ)) (L : ℕ → Type 0) (names : List (List ℕ)) (ps : List OutputPort) (known : List (List ℕ)) → AreNamed label L known → AllByRecursion (λ w. (w ≡ 0) ⊎ L w) (output_wires ps) → AreAhead known (output_covers label names ps)
+outputs_last label L [] ps known each all = tt
+outputs_last label L (name ∷ names) [] known each all = tt
+outputs_last label L (name ∷ names) (p ∷ ps) known each all = shown_then label L known name p.source (output_covers label names ps) each all.0 (outputs_last label L names ps (name ∷ known) (λ w l. more_seen known name (node_name label w) (each w l)) all.1)
+
+covers_ahead : (c : CircuitValue) → IsCircuit c → IsPlain c.equations → AreAhead (input_labels c.inputs) (written_covers c)
+covers_ahead c is plain =
+    let ins = input_wires c.inputs in
+    let ts = targets c.equations in
+    let label = label_of c in
+    let names = output_labels c.inputs c.outputs in
+    gates_then label c.equations (output_covers label names c.outputs) (input_labels c.inputs) (IsOneOf ins) (plain_ahead c is plain) (λ w one. input_named c w one) (gates_named c is) (λ known' L later each.
+    outputs_last label L names c.outputs known' each
+    (all_weak (IsOneOf (driven_wires c)) (λ w. (w ≡ 0) ⊎ L w) (output_wires c.outputs) (shown_met L ins ts later)
+    (all_first (IsOneOf (driven_wires c)) (output_wires c.outputs) (flat_map operand_wires c.equations) (used_one c is))))
+
+-- ---- rows
+
+cells_count : (k : ℕ) (rows : List ℕ) → AllByRecursion (λ (row : List ℕ). length row ≡ k) (map (row_cells k) rows)
+cells_count k [] = tt
+cells_count k (row ∷ rows) = (length-row_cells k row, cells_count k rows)
+
+gates_have : (label : ℕ → Option (List ℕ)) (es : List EquationValue) → AllByRecursion HasRows (map (gate_cover label) es)
+gates_have label [] = tt
+gates_have label (e ∷ es) = (rows, gates_have label es) where
+  rows : HasRows (gate_cover label e)
+  rows = subst (λ (n : ℕ). AllByRecursion (λ (row : List ℕ). length row ≡ n) (gate_cover label e).rows) (sym (length-map (variables e.operands) (λ (r : WireRef). node_name label r.wire.0))) (cells_count (length (variables e.operands)) _)
+
+output_has : (label : ℕ → Option (List ℕ)) (name : List ℕ) (r : WireRef) → HasRows (output_cover label name r)
+output_has label name r = by (eqb r.wire.0 0) r.complement where
+  by : (constant complement : Bool) → HasRows (cond constant (record { operands = []; target = name; rows = cond complement ([] ∷ []) [] }) (record { operands = node_name label r.wire.0 ∷ []; target = name; rows = cond complement (codes "0") (codes "1") ∷ [] }))
+  by true true = (refl, tt)
+  by true false = tt
+  by false true = (refl, tt)
+  by false false = (refl, tt)
+
+outputs_have : (label : ℕ → Option (List ℕ)) (names : List (List ℕ)) (ps : List OutputPort) → AllByRecursion HasRows (output_covers label names ps)
+outputs_have label [] ps = tt
+outputs_have label (name ∷ names) [] = tt
+outputs_have label (name ∷ names) (p ∷ ps) = (output_has label name p.source, outputs_have label names ps)
+
+-- ---- all together
+
+pub written_orderly : (c : CircuitValue) → HasWires c → IsCircuit c → IsPlain c.equations → IsOrderly (names_of (written_statements c)) (input_labels c.inputs) (output_labels c.inputs c.outputs) (written_covers c)
+written_orderly c wires is plain =
+    let ins = input_labels c.inputs in
+    let outs = output_labels c.inputs c.outputs in
+    let names = names_of (written_statements c) in
+    let gates = flat_map (λ (n : ℕ). made_name 110 n ∷ []) (targets c.equations) in
+    record {
+      once = names_differ c wires is;
+      seen = subst (AllByRecursion (λ x. is_seen names x ≡ true)) (driven_are ins outs (written_covers c)) (driven_seen [] (written_statements c));
+      ahead = covers_ahead c is plain;
+      shown = all_weak (λ x. is_seen outs x ≡ true) (λ x. is_seen (ins ++ cover_targets (written_covers c)) x ≡ true) outs (λ x seen. seen_after ins (cover_targets (written_covers c)) x (ap (λ (xs : List (List ℕ)). is_seen xs x) (targets_are c) ∙ seen_after gates outs x seen)) (seen_themselves outs);
+      rows = all_both HasRows (map (gate_cover (label_of c)) c.equations) (output_covers (label_of c) outs c.outputs) (gates_have (label_of c) c.equations) (outputs_have (label_of c) outs c.outputs);
+    }

@@ -5,3 +5,6 @@ pub mod Rules
 pub mod Ordered
 pub mod Means
 pub mod CoverRows
+pub mod NameValues
+pub mod GateValues
+pub mod OutputValues

@@ -74,7 +74,7 @@ operands_agree v label value K agree [] all = refl
 operands_agree v label value K agree (r ∷ rs) all = elim (eqb_tells r.wire.0 0) as (λ _. map v (operand_names label (cond (not (eqb r.wire.0 0)) (r ∷ variables rs) (variables rs))) ≡ map (λ (s : WireRef). value s.wire.0) (cond (not (eqb r.wire.0 0)) (r ∷ variables rs) (variables rs))) [
   | inl h ↦ subst (λ (b : Bool). map v (operand_names label (cond (not b) (r ∷ variables rs) (variables rs))) ≡ map (λ (s : WireRef). value s.wire.0) (cond (not b) (r ∷ variables rs) (variables rs))) (sym h.0) (operands_agree v label value K agree rs all.1)
   | inr h ↦ subst (λ (b : Bool). map v (operand_names label (cond (not b) (r ∷ variables rs) (variables rs))) ≡ map (λ (s : WireRef). value s.wire.0) (cond (not b) (r ∷ variables rs) (variables rs))) (sym h.0)
-  (ap (λ (b : Bool). b ∷ map v (operand_names label (variables rs))) (agree r.wire.0 (used h.1 all.0)) ∙ ap (λ (bs : List Bool). value r.wire.0 ∷ bs) (operands_agree v label value K agree rs all.1))
+      (ap (λ (b : Bool). b ∷ map v (operand_names label (variables rs))) (agree r.wire.0 (used h.1 all.0)) ∙ ap (λ (bs : List Bool). value r.wire.0 ∷ bs) (operands_agree v label value K agree rs all.1))
 ]
   where
     used : r.wire.0 ≢ 0 → ((r.wire.0 ≡ 0) ⊎ K r.wire.0) → K r.wire.0

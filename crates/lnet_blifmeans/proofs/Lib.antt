@@ -8,3 +8,5 @@ pub mod CoverRows
 pub mod NameValues
 pub mod GateValues
 pub mod OutputValues
+pub mod Reading
+pub mod Lengths

@@ -103,17 +103,13 @@ shaped_outputs : (d : CircuitValue) (names : List (List ℕ)) (a : ℕ → Bool)
 shaped_outputs d names a [] = refl
 shaped_outputs d names a (x ∷ xs) = ap (λ (bs : List Bool). name_value d names a x ∷ bs) (shaped_outputs d names a xs)
 
-written_values : (c : CircuitValue) (a : ℕ → Bool) → HasWires c → IsCircuit c → IsPlain c.equations → HasFewNames c → circuit_outputs (written_circuit c) a ≡ circuit_outputs c a
+pub written_values : (c : CircuitValue) → IsCircuit c → IsPlain c.equations → IsCircuit (written_circuit c) → (a : ℕ → Bool) → circuit_outputs (written_circuit c) a ≡ circuit_outputs c a
 unfolding circuit_outputs
-written_values c a wires is plain few =
+written_values c is plain rules a =
     let names = names_of (written_statements c) in
     let ins = input_labels c.inputs in
     let outs = output_labels c.inputs c.outputs in
     let ks = written_covers c in
     let d = written_circuit c in
-    let rules = written_rules c wires is plain few in
     let v = name_value d names a in
     shaped_outputs d names a outs ∙ labels_valued c a v is plain (input_valued c a v is (inputs_hold names ins outs ks a rules)) (covers_hold names ins outs ks a rules)
-
-pub written_outputs : (c : CircuitValue) → HasWires c → IsCircuit c → IsPlain c.equations → HasFewNames c → (a : ℕ → Bool) → circuit_outputs (circuit_of (written_statements c)) a ≡ circuit_outputs c a
-written_outputs c wires is plain few a = ap (λ (d : CircuitValue). circuit_outputs d a) (circuit_is c) ∙ written_values c a wires is plain few

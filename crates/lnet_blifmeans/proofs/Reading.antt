@@ -1,0 +1,60 @@
+-- What is read of a written text: its circuit alone, with the ports and outputs of the circuit that was written.
+use Rattle.std.proofs.Common.{◌≡◌, ℕ, Bool, List, [], ◌∷◌, length, map, Option, Some, refl, sym, ap, subst, ◌∙◌}
+use Rattle.std.proofs.lemmas.List.{length-map}
+use Rattle.lnet_edge.specs.declared.circuit.InputPort.{InputPort}
+use Rattle.lnet_edge.specs.declared.circuit.OutputPort.{OutputPort}
+use Rattle.lnet_edge.specs.Circuits.{CircuitValue}
+use Rattle.lnet_edge.specs.Plain.{IsPlain}
+use Rattle.lnet_edge.specs.Values.{circuit_outputs}
+use Rattle.lnet_edge.specs.Wires.{IsCircuit}
+use Rattle.lnet_naming.specs.Settling.{input_names, output_names, input_labels, output_labels}
+use Rattle.lnet_blif.specs.Statements.{StatementValue}
+use Rattle.lnet_blif.specs.Numbering.{input_of, output_of}
+use Rattle.lnet_blif.specs.Texts.{names_of, circuit_of}
+use Rattle.lnet_blif.specs.Meanings.{Means}
+use Rattle.lnet_blifwriter.specs.Texts.{blif_text}
+use Rattle.lnet_benchtext.specs.Written.{HasNames}
+use Rattle.lnet_bliftext.specs.Written.{written_statements}
+use Rattle.lnet_bliftext.proofs.Spelling.{read}
+use Rattle.lnet_bliftext.proofs.Texts.{written-read}
+use Rattle.lnet_blifmeans.specs.Driving.{HasPortsOf}
+use Rattle.lnet_blifmeans.proofs.Once.{count_inputs, count_outputs}
+use Rattle.lnet_blifmeans.proofs.Means.{written_circuit, circuit_is}
+use Rattle.lnet_blifmeans.proofs.OutputValues.{written_values}
+
+same_read : (ss ts : List StatementValue) → read ss ≡ read ts → ss ≡ ts
+same_read ss ts e = cc
+
+-- a text means one circuit at most
+means_only : (c d : CircuitValue) → HasNames c → Means (blif_text c) d → d ≡ written_circuit c
+means_only c d has means = means.is ∙ ap circuit_of (same_read means.statements (written_statements c) (sym means.read ∙ written-read c has)) ∙ circuit_is c
+
+pub read_outputs : (c d : CircuitValue) → HasNames c → IsCircuit c → IsPlain c.equations → Means (blif_text c) d → (a : ℕ → Bool) → circuit_outputs d a ≡ circuit_outputs c a
+read_outputs c d has is plain means a =
+    let same = means_only c d has means in
+    ap (λ (e : CircuitValue). circuit_outputs e a) same ∙ written_values c is plain (subst IsCircuit same means.rules) a
+
+-- ---- ports
+
+inputs_named : (names xs : List (List ℕ)) → input_names (map (input_of names) xs) ≡ map (λ (x : List ℕ). Some x) xs
+inputs_named names [] = refl
+inputs_named names (x ∷ xs) = ap (λ (os : List (Option (List ℕ))). Some x ∷ os) (inputs_named names xs)
+
+outputs_named : (names xs : List (List ℕ)) → output_names (map (output_of names) xs) ≡ map (λ (x : List ℕ). Some x) xs
+outputs_named names [] = refl
+outputs_named names (x ∷ xs) = ap (λ (os : List (Option (List ℕ))). Some x ∷ os) (outputs_named names xs)
+
+written_ports : (c : CircuitValue) → HasPortsOf c (written_circuit c)
+written_ports c =
+    let names = names_of (written_statements c) in
+    let ins = input_labels c.inputs in
+    let outs = output_labels c.inputs c.outputs in
+    record {
+      inputs = length-map ins (input_of names) ∙ count_inputs c;
+      outputs = length-map outs (output_of names) ∙ count_outputs c;
+      input_names = inputs_named names ins;
+      output_names = outputs_named names outs;
+    }
+
+pub read_ports : (c d : CircuitValue) → HasNames c → Means (blif_text c) d → HasPortsOf c d
+read_ports c d has means = subst (HasPortsOf c) (sym (means_only c d has means)) (written_ports c)

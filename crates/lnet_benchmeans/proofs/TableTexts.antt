@@ -60,11 +60,11 @@ last_drive label [] (p ∷ ps) same = refl
 last_drive label (name ∷ names) [] same = absurd cc
 last_drive label (name ∷ names) (p ∷ ps) same = ap (λ (xs : List (List ℕ)). name ∷ xs) (last_drive label names ps (ap pred same))
 
-pub seen_after : (ns ms : List (List ℕ)) (x : List ℕ) → is_seen ms x ≡ true → is_seen (ns ++ ms) x ≡ true
+seen_after : (ns ms : List (List ℕ)) (x : List ℕ) → is_seen ms x ≡ true → is_seen (ns ++ ms) x ≡ true
 seen_after [] ms x seen = seen
 seen_after (n ∷ ns) ms x seen = more_seen (ns ++ ms) n x (seen_after ns ms x seen)
 
-pub seen_themselves : (names : List (List ℕ)) → AllByRecursion (λ x. is_seen names x ≡ true) names
+seen_themselves : (names : List (List ℕ)) → AllByRecursion (λ x. is_seen names x ≡ true) names
 seen_themselves [] = tt
 seen_themselves (name ∷ names) = (first_seen names name, all_weak (λ x. is_seen names x ≡ true) (λ x. is_seen (name ∷ names) x ≡ true) names (more_seen names name) (seen_themselves names))
 

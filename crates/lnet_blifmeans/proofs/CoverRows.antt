@@ -1,12 +1,11 @@
 -- A cover with a row for each true one has the value of the row that its operands make.
 use Rattle.std.proofs.Common.{◌≡◌, ◌≢◌, ℕ, zero, suc, ◌+◌, ◌*◌, ◌/◌, ◌%◌, ◌^◌, ◌<◌, ◌≤◌, Bool, true, false, cond, eqb, List, [], ◌∷◌, length, map, refl, sym, ap, ◌∙◌, inl, inr, arith}
-use Rattle.std.specs.Prelude.{not, ◌⊎◌, ◌&&◌, ◌||◌, ◌==◌, if◌then◌else◌}
+use Rattle.std.specs.Prelude.{◌⊎◌, ◌&&◌, ◌||◌, if◌then◌else◌}
 use Rattle.std.specs.List.{list_any, filter, range_with_len}
 use Rattle.std.proofs.lemmas.Bool.{ne_eqb}
 use Rattle.std.proofs.lemmas.Bool.Decides.{nat_tests, eqb_tells}
 use native.Mathlib.Numerals.{unary_clauses}
-use Rattle.lnet_edge.specs.Covers.{CoverValue}
-use Rattle.lnet_edge.specs.Values.{complemented, row_number, cell_holds, row_holds, cover_value}
+use Rattle.lnet_edge.specs.Values.{row_number, cell_holds, row_holds, cover_value}
 use Rattle.lnet_blifwriter.specs.Texts.{row_cells}
 use Rattle.lnet_bliftext.specs.Written.{true_rows}
 use Rattle.lnet_blifmeans.proofs.Shape.{true_cover}

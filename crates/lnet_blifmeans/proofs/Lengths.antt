@@ -1,15 +1,15 @@
 -- A text has a byte or more for each of its names.
-use Rattle.std.proofs.Common.{◌≡◌, ℕ, suc, ◌+◌, ◌<◌, ◌≤◌, ◌^◌, Bool, true, false, cond, eqb, List, [], ◌∷◌, ◌++◌, length, Option, codes, refl, ap, ◌∙◌, arith, length-append}
+use Rattle.std.proofs.Common.{◌≡◌, ℕ, ◌≤◌, Bool, true, false, cond, eqb, List, [], ◌∷◌, ◌++◌, length, Option, codes, arith, length-append}
 use Rattle.std.specs.Prelude.{if◌then◌else◌}
-use Rattle.std.specs.List.{flat_map, range_with_len}
+use Rattle.std.specs.List.{flat_map}
 use Rattle.lnet_edge.specs.declared.circuit.OutputPort.{OutputPort}
 use Rattle.lnet_edge.specs.declared.circuit.WireRef.{WireRef}
 use Rattle.lnet_edge.specs.Circuits.{CircuitValue, EquationValue}
-use Rattle.lnet_naming.specs.Settling.{made_name, input_labels, output_labels}
+use Rattle.lnet_edge.specs.Outside.{file_limit}
+use Rattle.lnet_naming.specs.Settling.{input_labels, output_labels}
 use Rattle.lnet_nodes.specs.Nodes.{label_of, node_name}
-use Rattle.lnet_nodes.specs.Rows.{variables, gate_value}
-use Rattle.lnet_blifwriter.specs.Texts.{spaced, words_line, names_line, rows_text, gate_text, output_text, outputs_text, ports_text, covers_text, blif_text}
-use Rattle.lnet_blifmeans.specs.Driving.{HasFewNames}
+use Rattle.lnet_blifwriter.specs.Texts.{spaced, words_line, gate_text, output_text, outputs_text, ports_text, covers_text, blif_text}
+use Rattle.lnet_blifmeans.specs.Driving.{HasRoom}
 use Rattle.lnet_blifmeans.proofs.Once.{count_inputs, count_outputs}
 
 names_long : (names : List (List ℕ)) → length names ≤ length (flat_map spaced names)
@@ -36,8 +36,9 @@ outputs_long label (name ∷ names) (p ∷ ps) same =
     let both = length-append (output_text label name p.source) (outputs_text label names ps) in
     omega arith
 
-pub short_few : (c : CircuitValue) → length (blif_text c) < 2 ^ 32 → HasFewNames c
-short_few c short =
+-- a text in a file has room
+pub file_room : (c : CircuitValue) → length (blif_text c) ≤ file_limit → HasRoom c
+file_room c short =
     let ins = input_labels c.inputs in
     let outs = output_labels c.inputs c.outputs in
     let label = label_of c in

@@ -1,5 +1,5 @@
 -- What a written text means.
-use Rattle.std.proofs.Common.{◌≡◌, ℕ, suc, pred, ◌+◌, ◌<◌, ◌≤◌, List, [], ◌∷◌, ◌++◌, length, map, Option, refl, sym, ap, subst, ◌∙◌, arith, length-append}
+use Rattle.std.proofs.Common.{◌≡◌, ℕ, suc, pred, ◌+◌, List, [], ◌∷◌, length, map, Option, refl, sym, ap, subst, arith, length-append}
 use Rattle.std.proofs.lemmas.List.{length-map}
 use Rattle.lnet_edge.specs.declared.circuit.OutputPort.{OutputPort}
 use Rattle.lnet_edge.specs.Circuits.{CircuitValue}
@@ -14,7 +14,7 @@ use Rattle.lnet_benchtext.specs.Written.{HasNames}
 use Rattle.lnet_benchmeans.specs.Driving.{HasWires}
 use Rattle.lnet_bliftext.specs.Written.{gate_cover, output_covers, written_covers, written_statements}
 use Rattle.lnet_bliftext.proofs.Texts.{written-read}
-use Rattle.lnet_blifmeans.specs.Driving.{HasFewNames}
+use Rattle.lnet_blifmeans.specs.Driving.{HasRoom}
 use Rattle.lnet_blifmeans.proofs.Shape.{shaped, shape}
 use Rattle.lnet_blifmeans.proofs.Once.{count_inputs, count_outputs}
 use Rattle.lnet_blifmeans.proofs.Rules.{keeps_rules}
@@ -40,7 +40,7 @@ count_covers c =
     let both = length-append (map (gate_cover (label_of c)) c.equations) (output_covers (label_of c) (output_labels c.inputs c.outputs) c.outputs) in
     omega arith
 
-pub written_rules : (c : CircuitValue) → HasWires c → IsCircuit c → IsPlain c.equations → HasFewNames c → IsCircuit (written_circuit c)
+pub written_rules : (c : CircuitValue) → HasWires c → IsCircuit c → IsPlain c.equations → HasRoom c → IsCircuit (written_circuit c)
 written_rules c wires is plain few =
     let ins = count_inputs c in
     let outs = count_outputs c in
@@ -48,7 +48,7 @@ written_rules c wires is plain few =
     let few_outputs = is.few_outputs in
     keeps_rules (names_of (written_statements c)) (input_labels c.inputs) (output_labels c.inputs c.outputs) (written_covers c) (written_orderly c wires is plain) (omega arith) (omega arith)
 
-pub written_means : (c : CircuitValue) → HasNames c → HasWires c → IsCircuit c → IsPlain c.equations → HasFewNames c → Means (blif_text c) (circuit_of (written_statements c))
+pub written_means : (c : CircuitValue) → HasNames c → HasWires c → IsCircuit c → IsPlain c.equations → HasRoom c → Means (blif_text c) (circuit_of (written_statements c))
 written_means c has wires is plain few = record {
   statements = written_statements c;
   read = written-read c has;

@@ -1,11 +1,10 @@
 -- The values of names in the circuit of covers.
-use Rattle.std.proofs.Common.{◌≡◌, ℕ, zero, suc, ◌+◌, ◌<◌, Bool, true, false, List, [], ◌∷◌, length, map, get_or, unwrap_or, Option, Some, None, refl, sym, ap, ◌∙◌, arith}
+use Rattle.std.proofs.Common.{◌≡◌, ℕ, zero, suc, ◌+◌, ◌<◌, Bool, List, [], ◌∷◌, length, map, get_or, unwrap_or, Option, Some, refl, sym, ap, ◌∙◌, arith}
 use Rattle.std.specs.Prelude.{Contains, slice_get}
 use Rattle.std.specs.List.{AllByRecursion}
 use Rattle.std.proofs.lemmas.List.{length-map}
 use Rattle.std.proofs.lemmas.List.Elements.{recursion_from_All, All-contains_itself}
-use Rattle.lnet_edge.specs.declared.circuit.InputPort.{InputPort}
-use Rattle.lnet_edge.specs.Circuits.{CircuitValue, EquationValue}
+use Rattle.lnet_edge.specs.Circuits.{CircuitValue}
 use Rattle.lnet_edge.specs.Values.{input_place, equation_at, driven, input_or, cover_value, value_of, ref_value}
 use Rattle.lnet_edge.specs.Wires.{input_wires, IsCircuit}
 use Rattle.lnet_edge.proofs.ValueLemmas.{value_once, value-equation, value-input}

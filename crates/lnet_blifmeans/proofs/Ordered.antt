@@ -1,14 +1,17 @@
 -- The covers of a written text are in order.
-use Rattle.std.proofs.Common.{◌≡◌, ◌≢◌, ℕ, suc, ◌+◌, ◌≤◌, ◌^◌, Bool, true, false, cond, eqb, List, [], ◌∷◌, ◌++◌, length, map, Option, codes, refl, sym, ap, subst, ◌∙◌, inl, inr, arith}
-use Rattle.std.specs.Prelude.{◌⊎◌, ◌||◌, not, flat_map}
-use Rattle.std.specs.List.{AllByRecursion, filter}
+use Rattle.std.proofs.Common.{◌≡◌, ◌≢◌, ℕ, Bool, true, false, cond, eqb, List, [], ◌∷◌, ◌++◌, length, map, Option, codes, refl, sym, subst, inl, inr}
+use Rattle.std.specs.Prelude.{◌⊎◌, not, Contains, flat_map}
+use Rattle.std.specs.Cmp.Lexicographic.{nat_list_eq_equiv}
+use Rattle.std.specs.List.{AllByRecursion}
 use Rattle.std.proofs.lemmas.Bool.Decides.{eqb_tells}
 use Rattle.std.proofs.lemmas.List.{length-map}
+use Rattle.std.proofs.lemmas.List.Elements.{recursion_from_All, All-contains_itself}
+use Rattle.std.proofs.lemmas.Map.Views.{list_any-from_Contains}
 use Rattle.lnet_edge.specs.declared.circuit.OutputPort.{OutputPort}
 use Rattle.lnet_edge.specs.declared.circuit.WireRef.{WireRef}
 use Rattle.lnet_edge.specs.Circuits.{CircuitValue, EquationValue}
 use Rattle.lnet_edge.specs.Plain.{IsPlain}
-use Rattle.lnet_edge.specs.Wires.{input_wires, output_wires, targets, operand_wires, driven_wires, used_wires, IsCircuit}
+use Rattle.lnet_edge.specs.Wires.{input_wires, output_wires, targets, operand_wires, driven_wires, IsCircuit}
 use Rattle.lnet_wires.specs.Naming.{is_seen}
 use Rattle.lnet_naming.specs.Settling.{made_name, input_labels, output_labels}
 use Rattle.lnet_nodes.specs.Nodes.{label_of, node_name}
@@ -16,18 +19,18 @@ use Rattle.lnet_nodes.specs.Rows.{variables}
 use Rattle.lnet_blif.specs.Texts.{names_of}
 use Rattle.lnet_blifwriter.specs.Texts.{operand_names, row_cells}
 use Rattle.lnet_benchmeans.specs.Driving.{HasWires}
-use Rattle.lnet_benchmeans.proofs.Differing.{all_both, all_weak, all_first}
+use Rattle.lnet_benchmeans.proofs.Differing.{all_both, all_weak, all_first, all_second}
 use Rattle.lnet_benchmeans.proofs.Falling.{IsAhead}
 use Rattle.lnet_benchmeans.proofs.Plain.{IsOneOf, used_one, plain_ahead}
+use Rattle.lnet_benchmeans.proofs.Middle.{gate_names}
 use Rattle.lnet_benchmeans.proofs.Nodes.{input_named}
 use Rattle.lnet_benchmeans.proofs.Tables.{AreNamed, more_named, more_seen}
 use Rattle.lnet_benchmeans.proofs.TableForm.{gates_named, shown_met}
-use Rattle.lnet_benchmeans.proofs.TableTexts.{seen_after, seen_themselves}
-use Rattle.lnet_bliftext.specs.Written.{CoverLines, true_rows, gate_cover, output_cover, output_covers, written_covers, written_statements}
+use Rattle.lnet_bliftext.specs.Written.{CoverLines, gate_cover, output_cover, output_covers, written_covers, written_statements}
 use Rattle.lnet_bliftext.proofs.Rows.{length-row_cells}
 use Rattle.lnet_blifmeans.proofs.Shape.{cover_targets, driven_are}
 use Rattle.lnet_blifmeans.proofs.Seen.{driven_seen}
-use Rattle.lnet_blifmeans.proofs.Once.{count_outputs, targets_are, names_differ}
+use Rattle.lnet_blifmeans.proofs.Once.{targets_are, names_differ}
 use Rattle.lnet_blifmeans.proofs.Rules.{AreAhead, HasRows, IsOrderly}
 
 -- ---- gates
@@ -111,6 +114,19 @@ outputs_have label [] ps = tt
 outputs_have label (name ∷ names) [] = tt
 outputs_have label (name ∷ names) (p ∷ ps) = (output_has label name p.source, outputs_have label names ps)
 
+-- ---- names of outputs are driven
+
+driven_seen_at : (xs : List (List ℕ)) → AllByRecursion (λ x. is_seen xs x ≡ true) xs
+driven_seen_at xs = all_weak (Contains xs) (λ x. is_seen xs x ≡ true) xs (λ x one. list_any-from_Contains nat_list_eq_equiv x xs one) (recursion_from_All (Contains xs) xs (All-contains_itself xs))
+
+outputs_seen : (c : CircuitValue) → AllByRecursion (λ x. is_seen (input_labels c.inputs ++ cover_targets (written_covers c)) x ≡ true) (output_labels c.inputs c.outputs)
+outputs_seen c =
+    let ins = input_labels c.inputs in
+    let gates = flat_map (gate_names (λ n. false)) (targets c.equations) in
+    let all = ins ++ cover_targets (written_covers c) in
+    let P : List ℕ → Type 0 = λ x. is_seen all x ≡ true in
+    all_second P gates (output_labels c.inputs c.outputs) (subst (AllByRecursion P) (targets_are c) (all_second P ins (cover_targets (written_covers c)) (driven_seen_at all)))
+
 -- ---- all together
 
 pub written_orderly : (c : CircuitValue) → HasWires c → IsCircuit c → IsPlain c.equations → IsOrderly (names_of (written_statements c)) (input_labels c.inputs) (output_labels c.inputs c.outputs) (written_covers c)
@@ -118,11 +134,10 @@ written_orderly c wires is plain =
     let ins = input_labels c.inputs in
     let outs = output_labels c.inputs c.outputs in
     let names = names_of (written_statements c) in
-    let gates = flat_map (λ (n : ℕ). made_name 110 n ∷ []) (targets c.equations) in
     record {
       once = names_differ c wires is;
       seen = subst (AllByRecursion (λ x. is_seen names x ≡ true)) (driven_are ins outs (written_covers c)) (driven_seen [] (written_statements c));
       ahead = covers_ahead c is plain;
-      shown = all_weak (λ x. is_seen outs x ≡ true) (λ x. is_seen (ins ++ cover_targets (written_covers c)) x ≡ true) outs (λ x seen. seen_after ins (cover_targets (written_covers c)) x (ap (λ (xs : List (List ℕ)). is_seen xs x) (targets_are c) ∙ seen_after gates outs x seen)) (seen_themselves outs);
+      shown = outputs_seen c;
       rows = all_both HasRows (map (gate_cover (label_of c)) c.equations) (output_covers (label_of c) outs c.outputs) (gates_have (label_of c) c.equations) (outputs_have (label_of c) outs c.outputs);
     }

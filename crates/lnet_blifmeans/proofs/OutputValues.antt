@@ -1,5 +1,5 @@
 -- The circuit of a written text has the outputs of the circuit.
-use Rattle.std.proofs.Common.{◌≡◌, ℕ, suc, pred, ◌+◌, Bool, true, false, cond, eqb, List, [], ◌∷◌, ◌++◌, length, map, Option, codes, refl, sym, ap, subst, ◌∙◌, inl, inr}
+use Rattle.std.proofs.Common.{◌≡◌, ℕ, pred, Bool, true, false, cond, eqb, List, [], ◌∷◌, length, map, Option, codes, refl, sym, ap, subst, ◌∙◌, inl, inr}
 use Rattle.std.specs.Prelude.{◌⊎◌, Contains, flat_map}
 use Rattle.std.specs.List.{AllByRecursion}
 use Rattle.std.proofs.lemmas.Bool.Decides.{eqb_tells}
@@ -14,17 +14,15 @@ use Rattle.lnet_edge.proofs.ValueLemmas.{value-equation, value-constant}
 use Rattle.lnet_naming.specs.Settling.{input_labels, output_labels}
 use Rattle.lnet_nodes.specs.Nodes.{label_of, node_name}
 use Rattle.lnet_blif.specs.Numbering.{output_of}
-use Rattle.lnet_blif.specs.Texts.{names_of, circuit_of}
-use Rattle.lnet_benchmeans.specs.Driving.{HasWires}
+use Rattle.lnet_blif.specs.Texts.{names_of}
 use Rattle.lnet_benchmeans.proofs.Differing.{all_weak, all_first, all_second}
 use Rattle.lnet_benchmeans.proofs.Plain.{IsOneOf, used_one, plain_ahead}
 use Rattle.lnet_benchmeans.proofs.TableForm.{gates_named, shown_met}
 use Rattle.lnet_bliftext.specs.Written.{CoverLines, gate_cover, output_cover, output_covers, written_covers, written_statements}
-use Rattle.lnet_blifmeans.specs.Driving.{HasFewNames}
-use Rattle.lnet_blifmeans.proofs.Shape.{true_cover, shaped}
+use Rattle.lnet_blifmeans.proofs.Shape.{true_cover}
 use Rattle.lnet_blifmeans.proofs.Once.{count_outputs}
 use Rattle.lnet_blifmeans.proofs.Ordered.{cover_showing}
-use Rattle.lnet_blifmeans.proofs.Means.{written_circuit, circuit_is, written_rules}
+use Rattle.lnet_blifmeans.proofs.Means.{written_circuit}
 use Rattle.lnet_blifmeans.proofs.NameValues.{name_value, CoversHold, covers_hold, inputs_hold, input_valued}
 use Rattle.lnet_blifmeans.proofs.GateValues.{Agree, used_values, GatesHold, gates_agree}
 

@@ -1,8 +1,6 @@
 -- What is read of a written text: its circuit alone, with the ports and outputs of the circuit that was written.
 use Rattle.std.proofs.Common.{◌≡◌, ℕ, Bool, List, [], ◌∷◌, length, map, Option, Some, refl, sym, ap, subst, ◌∙◌}
 use Rattle.std.proofs.lemmas.List.{length-map}
-use Rattle.lnet_edge.specs.declared.circuit.InputPort.{InputPort}
-use Rattle.lnet_edge.specs.declared.circuit.OutputPort.{OutputPort}
 use Rattle.lnet_edge.specs.Circuits.{CircuitValue}
 use Rattle.lnet_edge.specs.Plain.{IsPlain}
 use Rattle.lnet_edge.specs.Values.{circuit_outputs}
@@ -17,7 +15,6 @@ use Rattle.lnet_benchtext.specs.Written.{HasNames}
 use Rattle.lnet_bliftext.specs.Written.{written_statements}
 use Rattle.lnet_bliftext.proofs.Spelling.{read}
 use Rattle.lnet_bliftext.proofs.Texts.{written-read}
-use Rattle.lnet_blifmeans.specs.Driving.{HasPortsOf}
 use Rattle.lnet_blifmeans.proofs.Once.{count_inputs, count_outputs}
 use Rattle.lnet_blifmeans.proofs.Means.{written_circuit, circuit_is}
 use Rattle.lnet_blifmeans.proofs.OutputValues.{written_values}
@@ -44,17 +41,14 @@ outputs_named : (names xs : List (List ℕ)) → output_names (map (output_of na
 outputs_named names [] = refl
 outputs_named names (x ∷ xs) = ap (λ (os : List (Option (List ℕ))). Some x ∷ os) (outputs_named names xs)
 
-written_ports : (c : CircuitValue) → HasPortsOf c (written_circuit c)
-written_ports c =
-    let names = names_of (written_statements c) in
-    let ins = input_labels c.inputs in
-    let outs = output_labels c.inputs c.outputs in
-    record {
-      inputs = length-map ins (input_of names) ∙ count_inputs c;
-      outputs = length-map outs (output_of names) ∙ count_outputs c;
-      input_names = inputs_named names ins;
-      output_names = outputs_named names outs;
-    }
+pub read_inputs : (c d : CircuitValue) → HasNames c → Means (blif_text c) d → input_names d.inputs ≡ map (λ (x : List ℕ). Some x) (input_labels c.inputs)
+read_inputs c d has means = ap (λ (e : CircuitValue). input_names e.inputs) (means_only c d has means) ∙ inputs_named (names_of (written_statements c)) (input_labels c.inputs)
 
-pub read_ports : (c d : CircuitValue) → HasNames c → Means (blif_text c) d → HasPortsOf c d
-read_ports c d has means = subst (HasPortsOf c) (sym (means_only c d has means)) (written_ports c)
+pub read_output_names : (c d : CircuitValue) → HasNames c → Means (blif_text c) d → output_names d.outputs ≡ map (λ (x : List ℕ). Some x) (output_labels c.inputs c.outputs)
+read_output_names c d has means = ap (λ (e : CircuitValue). output_names e.outputs) (means_only c d has means) ∙ outputs_named (names_of (written_statements c)) (output_labels c.inputs c.outputs)
+
+pub read_counts : (c d : CircuitValue) → HasNames c → Means (blif_text c) d → (length d.inputs ≡ length c.inputs) × (length d.outputs ≡ length c.outputs)
+read_counts c d has means =
+    let names = names_of (written_statements c) in
+    let same = means_only c d has means in
+    (ap (λ (e : CircuitValue). length e.inputs) same ∙ length-map (input_labels c.inputs) (input_of names) ∙ count_inputs c, ap (λ (e : CircuitValue). length e.outputs) same ∙ length-map (output_labels c.inputs c.outputs) (output_of names) ∙ count_outputs c)

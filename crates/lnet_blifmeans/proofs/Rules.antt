@@ -1,12 +1,12 @@
 -- The circuit of covers in order keeps the rules of circuits.
-use Rattle.std.proofs.Common.{◌≡◌, ◌≢◌, ℕ, ◌+◌, ◌<◌, ◌≤◌, true, List, [], ◌∷◌, ◌++◌, length, map, refl, sym, ap, subst, ◌∙◌, inl, inr, arith}
+use Rattle.std.proofs.Common.{◌≡◌, ◌≢◌, ℕ, ◌+◌, ◌<◌, ◌≤◌, true, List, [], ◌∷◌, ◌++◌, length, map, refl, sym, ap, subst, ◌∙◌, inr, arith}
 use Rattle.std.specs.Prelude.{◌⊎◌, Contains, flat_map}
 use Rattle.std.specs.List.{AllByRecursion}
 use Rattle.std.proofs.lemmas.List.{map-append, length-map}
 use Rattle.std.proofs.lemmas.List.Elements.{All-from_recursion, recursion_from_All, All-contains, All-contains_itself}
 use Rattle.lnet_edge.specs.declared.circuit.WireRef.{WireRef}
-use Rattle.lnet_edge.specs.Circuits.{CircuitValue, EquationValue}
-use Rattle.lnet_edge.specs.Wires.{input_wires, output_wires, targets, operand_wires, driven_wires, used_wires, IsUndriven, IsTwice, IsCyclic, HasArity, HasArities, IsCircuit}
+use Rattle.lnet_edge.specs.Circuits.{EquationValue}
+use Rattle.lnet_edge.specs.Wires.{input_wires, output_wires, targets, operand_wires, driven_wires, used_wires, IsUndriven, IsTwice, IsCyclic, HasArity, IsCircuit}
 use Rattle.lnet_wires.specs.Naming.{is_seen, wire_of}
 use Rattle.lnet_wires.proofs.WireLaws.{apart}
 use Rattle.lnet_blif.specs.Numbering.{use_of, input_of, output_of}
@@ -15,7 +15,7 @@ use Rattle.lnet_benchmeans.proofs.Falling.{IsAhead, all_used, never_back}
 use Rattle.lnet_benchmeans.proofs.Ordering.{HoldsOf, holds_all, behind}
 use Rattle.lnet_benchmeans.proofs.Wires.{above_zero, once_differ}
 use Rattle.lnet_bliftext.specs.Written.{CoverLines}
-use Rattle.lnet_blifmeans.proofs.Shape.{cover_targets, true_cover, equation_of, shaped}
+use Rattle.lnet_blifmeans.proofs.Shape.{cover_targets, equation_of, shaped}
 
 -- behind these names, each cover uses names that are driven before it
 abbrev pub AreAhead : List (List ℕ) → List CoverLines → Type 0

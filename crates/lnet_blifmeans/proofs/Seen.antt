@@ -1,5 +1,5 @@
 -- Each name that statements drive stands for a wire.
-use Rattle.std.proofs.Common.{◌≡◌, ℕ, true, List, [], ◌∷◌, ◌++◌}
+use Rattle.std.proofs.Common.{◌≡◌, ℕ, true, List, [], ◌∷◌}
 use Rattle.std.specs.List.{AllByRecursion}
 use Rattle.lnet_wires.specs.Naming.{is_seen, with_name}
 use Rattle.lnet_wires.proofs.WireLaws.{sees}

@@ -4,6 +4,6 @@
 mod laws;
 
 pub use laws::{
-    names_are_driven_once, read_circuit_is_the_written_one, short_texts_have_few_names,
-    true_rows_are_the_function, written_text_means,
+    names_are_driven_once, true_rows_are_the_function, written_text_keeps_outputs,
+    written_text_keeps_ports, written_text_means,
 };

@@ -24,7 +24,7 @@ use Rattle.lnet_bliftext.proofs.Commands.{IsOpen, has_words, names_say}
 use Rattle.lnet_bliftext.proofs.Rows.{IsInside, spells_row, spells_true, spells_rows}
 
 -- `.names` with these operands and this target
-abbrev names_text : List (List ℕ) → List ℕ → List ℕ
+abbrev pub names_text : List (List ℕ) → List ℕ → List ℕ
 names_text operands target = codes ".names" ++ (flat_map spaced operands ++ (spaced target ++ 10 ∷ []))
 
 abbrev lines : List (List ℕ) → List ℕ → List (List ℕ) → CoverLines
@@ -36,7 +36,7 @@ open_of k AtOutside at = absurd at
 open_of k (AtInside t) at = tt
 open_of k AtBehind at = absurd at
 
-names_cut : (operands : List (List ℕ)) (target rest : List ℕ) → names_text operands target ++ rest ≡ (codes ".names" ++ flat_map spaced (operands ++ target ∷ [])) ++ 10 ∷ rest
+pub names_cut : (operands : List (List ℕ)) (target rest : List ℕ) → names_text operands target ++ rest ≡ (codes ".names" ++ flat_map spaced (operands ++ target ∷ [])) ++ 10 ∷ rest
 names_cut operands target rest =
     let joined : flat_map spaced (operands ++ target ∷ []) ≡ flat_map spaced operands ++ spaced target = flat_map-append spaced operands (target ∷ []) ∙ ap (λ (t : List ℕ). flat_map spaced operands ++ t) (append-nil (spaced target)) in
     let whole : flat_map spaced operands ++ (spaced target ++ 10 ∷ []) ≡ flat_map spaced (operands ++ target ∷ []) ++ 10 ∷ [] = sym (append_assoc (flat_map spaced operands) (spaced target) (10 ∷ [])) ∙ ap (λ (t : List ℕ). t ++ 10 ∷ []) (sym joined) in
@@ -85,7 +85,7 @@ spells_constant : (name : List ℕ) (value : Bool) → is_written name ≡ true 
 spells_constant name true is = subst (λ (t : List ℕ). Spells IsOpen t (Names [] name ∷ true_row [] ∷ [])) (ap (λ (t : List ℕ). codes ".names " ++ t) (append_assoc name (10 ∷ []) (codes "1\n"))) (spells_cover [] name (codes "1\n") (true_row [] ∷ []) refl is spells_true)
 spells_constant name false is = subst (λ (t : List ℕ). Spells IsOpen t (Names [] name ∷ [])) (append-nil (names_text [] name)) (spells_cover [] name [] [] refl is (spells_none (IsInside 0)))
 
-one_operand : (node name rest : List ℕ) → names_text (node ∷ []) name ++ rest ≡ codes ".names " ++ (node ++ (32 ∷ (name ++ 10 ∷ rest)))
+pub one_operand : (node name rest : List ℕ) → names_text (node ∷ []) name ++ rest ≡ codes ".names " ++ (node ++ (32 ∷ (name ++ 10 ∷ rest)))
 one_operand node name rest =
     ap (λ (t : List ℕ). (codes ".names " ++ (t ++ (spaced name ++ 10 ∷ []))) ++ rest) (append-nil node)
     ∙ ap (λ (t : List ℕ). codes ".names " ++ t) (append_assoc node (spaced name ++ 10 ∷ []) rest)

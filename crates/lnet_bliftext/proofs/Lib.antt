@@ -5,3 +5,5 @@ pub mod Commands
 pub mod Rows
 pub mod Covers
 pub mod Texts
+pub mod LineTexts
+pub mod LineWords

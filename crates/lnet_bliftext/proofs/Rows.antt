@@ -70,7 +70,7 @@ same n = grind (arith, nat_tests)
 row_of-cells : (cells : List ℕ) → is_row cells ≡ true → row_of (length cells) (cells ∷ codes "1" ∷ []) ≡ Some (record { cells = cells; value = true })
 row_of-cells cells row = ap (λ (t : Bool). cond t (row_with cells (Some true)) None) (true_both (eqb (length cells) (length cells)) (is_row cells) (same (length cells)) row)
 
-cells_words : (b : ℕ) (bs : List ℕ) → is_row (b ∷ bs) ≡ true → HasWords ((b ∷ bs) ++ codes " 1") ((b ∷ bs) ∷ codes "1" ∷ [])
+pub cells_words : (b : ℕ) (bs : List ℕ) → is_row (b ∷ bs) ≡ true → HasWords ((b ∷ bs) ++ codes " 1") ((b ∷ bs) ∷ codes "1" ∷ [])
 cells_words b bs row = record {
   bytes = all-append is_kept_byte (b ∷ bs) (codes " 1") (all_weaker is_cell is_kept_byte (b ∷ bs) cell_kept row) refl;
   cut = words_before (b ∷ bs) (codes "1") (record { some = some_bytes b bs; whole = all_weaker is_cell (λ c. not (is_blank c)) (b ∷ bs) cell_full row });

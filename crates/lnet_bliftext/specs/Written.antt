@@ -1,13 +1,15 @@
 -- The statements that the BLIF text of a circuit spells. After "Berkeley Logic Interchange Format (BLIF)", University of
 -- California, Berkeley, 1992.
-use Rattle.std.specs.Prelude.{ℕ, ◌^◌, ◌==◌, Bool, true, List, [], ◌∷◌, ◌++◌, length, map, Option, codes, if◌then◌else◌}
+use Rattle.std.specs.Prelude.{ℕ, ◌+◌, ◌^◌, ◌==◌, Bool, true, List, [], ◌∷◌, ◌++◌, length, map, Option, Result, Ok, codes, if◌then◌else◌}
 use Rattle.std.specs.List.{flat_map, filter, range_with_len}
 use Rattle.lnet_edge.specs.declared.circuit.OutputPort.{OutputPort}
 use Rattle.lnet_edge.specs.declared.circuit.WireRef.{WireRef}
+use Rattle.lnet_edge.specs.declared.fault.Malformed.{Malformed}
 use Rattle.lnet_edge.specs.Circuits.{CircuitValue, EquationValue}
 use Rattle.lnet_naming.specs.Settling.{made_name, input_labels, output_labels}
 use Rattle.lnet_nodes.specs.Nodes.{label_of, node_name}
 use Rattle.lnet_nodes.specs.Rows.{variables, gate_value}
+use Rattle.lnet_bliflines.specs.Words.{LineWords}
 use Rattle.lnet_blif.specs.Statements.{StatementValue, Model, Inputs, Outputs, Names, Row, End}
 use Rattle.lnet_blifwriter.specs.Texts.{operand_names, row_cells}
 
@@ -52,3 +54,24 @@ written_covers c = map (gate_cover (label_of c)) c.equations ++ output_covers (l
 -- the statements of the text of a circuit
 abbrev pub written_statements : CircuitValue → List StatementValue
 written_statements c = Model ∷ Inputs (input_labels c.inputs) ∷ Outputs (output_labels c.inputs c.outputs) ∷ (flat_map cover_statements (written_covers c) ++ End ∷ [])
+
+-- ---- lines
+
+-- the words of a row: its cells, unless there are none, and the value
+abbrev pub row_words : List ℕ → Bool → List (List ℕ)
+row_words [] value = (if value then codes "1" else codes "0") ∷ []
+row_words (b ∷ bs) value = (b ∷ bs) ∷ (if value then codes "1" else codes "0") ∷ []
+
+-- the words of a statement's line
+abbrev pub statement_words : StatementValue → List (List ℕ)
+statement_words Model = codes ".model" ∷ codes "lognet" ∷ []
+statement_words (Inputs xs) = codes ".inputs" ∷ xs
+statement_words (Outputs xs) = codes ".outputs" ∷ xs
+statement_words (Names operands target) = codes ".names" ∷ (operands ++ target ∷ [])
+statement_words (Row row) = row_words row.cells row.value
+statement_words End = codes ".end" ∷ []
+
+-- lines of these words, one behind the other from this number on, each by itself
+abbrev pub lines_from : ℕ → List (List (List ℕ)) → List (Result LineWords Malformed)
+lines_from n [] = []
+lines_from n (words ∷ more) = Ok (record { number = n; words = words }) ∷ lines_from (n + 1) more

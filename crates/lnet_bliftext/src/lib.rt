@@ -3,4 +3,4 @@
 
 mod laws;
 
-pub use laws::written_text_is_read;
+pub use laws::{written_text_is_cut, written_text_is_read};

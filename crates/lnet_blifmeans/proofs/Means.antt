@@ -13,7 +13,7 @@ use Rattle.lnet_blifwriter.specs.Texts.{blif_text}
 use Rattle.lnet_benchtext.specs.Written.{HasNames}
 use Rattle.lnet_benchmeans.specs.Driving.{HasWires}
 use Rattle.lnet_bliftext.specs.Written.{gate_cover, output_covers, written_covers, written_statements}
-use Rattle.lnet_bliftext.proofs.Texts.{written-read}
+use Rattle.lnet_bliftext.proofs.Reading.{written-read}
 use Rattle.lnet_blifmeans.specs.Driving.{HasRoom}
 use Rattle.lnet_blifmeans.proofs.Shape.{shaped, shape}
 use Rattle.lnet_blifmeans.proofs.Once.{count_inputs, count_outputs}

@@ -1,10 +1,9 @@
 -- The covers of a written text are in order.
-use Rattle.std.proofs.Common.{◌≡◌, ◌≢◌, ℕ, Bool, true, false, cond, eqb, List, [], ◌∷◌, ◌++◌, length, map, Option, codes, refl, sym, subst, inl, inr}
+use Rattle.std.proofs.Common.{◌≡◌, ◌≢◌, ℕ, Bool, true, false, cond, eqb, List, [], ◌∷◌, ◌++◌, map, Option, codes, sym, subst, inl, inr}
 use Rattle.std.specs.Prelude.{◌⊎◌, not, Contains, flat_map}
 use Rattle.std.specs.Cmp.Lexicographic.{nat_list_eq_equiv}
 use Rattle.std.specs.List.{AllByRecursion}
 use Rattle.std.proofs.lemmas.Bool.Decides.{eqb_tells}
-use Rattle.std.proofs.lemmas.List.{length-map}
 use Rattle.std.proofs.lemmas.List.Elements.{recursion_from_All, All-contains_itself}
 use Rattle.std.proofs.lemmas.Map.Views.{list_any-from_Contains}
 use Rattle.lnet_edge.specs.declared.circuit.OutputPort.{OutputPort}
@@ -17,9 +16,9 @@ use Rattle.lnet_naming.specs.Settling.{made_name, input_labels, output_labels}
 use Rattle.lnet_nodes.specs.Nodes.{label_of, node_name}
 use Rattle.lnet_nodes.specs.Rows.{variables}
 use Rattle.lnet_blif.specs.Texts.{names_of}
-use Rattle.lnet_blifwriter.specs.Texts.{operand_names, row_cells}
+use Rattle.lnet_blifwriter.specs.Texts.{operand_names}
 use Rattle.lnet_benchmeans.specs.Driving.{HasWires}
-use Rattle.lnet_benchmeans.proofs.Differing.{all_both, all_weak, all_first, all_second}
+use Rattle.lnet_benchmeans.proofs.Differing.{all_weak, all_first, all_second}
 use Rattle.lnet_benchmeans.proofs.Falling.{IsAhead}
 use Rattle.lnet_benchmeans.proofs.Plain.{IsOneOf, used_one, plain_ahead}
 use Rattle.lnet_benchmeans.proofs.Middle.{gate_names}
@@ -27,11 +26,11 @@ use Rattle.lnet_benchmeans.proofs.Nodes.{input_named}
 use Rattle.lnet_benchmeans.proofs.Tables.{AreNamed, more_named, more_seen}
 use Rattle.lnet_benchmeans.proofs.TableForm.{gates_named, shown_met}
 use Rattle.lnet_bliftext.specs.Written.{CoverLines, gate_cover, output_cover, output_covers, written_covers, written_statements}
-use Rattle.lnet_bliftext.proofs.Rows.{length-row_cells}
+use Rattle.lnet_bliftext.proofs.CoverForms.{rows_fit}
 use Rattle.lnet_blifmeans.proofs.Shape.{cover_targets, driven_are}
 use Rattle.lnet_blifmeans.proofs.Seen.{driven_seen}
 use Rattle.lnet_blifmeans.proofs.Once.{targets_are, names_differ}
-use Rattle.lnet_blifmeans.proofs.Rules.{AreAhead, HasRows, IsOrderly}
+use Rattle.lnet_blifmeans.proofs.Rules.{AreAhead, IsOrderly}
 
 -- ---- gates
 
@@ -89,31 +88,6 @@ covers_ahead c is plain =
     (all_weak (IsOneOf (driven_wires c)) (λ w. (w ≡ 0) ⊎ L w) (output_wires c.outputs) (shown_met L ins ts later)
     (all_first (IsOneOf (driven_wires c)) (output_wires c.outputs) (flat_map operand_wires c.equations) (used_one c is))))
 
--- ---- rows
-
-cells_count : (k : ℕ) (rows : List ℕ) → AllByRecursion (λ (row : List ℕ). length row ≡ k) (map (row_cells k) rows)
-cells_count k [] = tt
-cells_count k (row ∷ rows) = (length-row_cells k row, cells_count k rows)
-
-gates_have : (label : ℕ → Option (List ℕ)) (es : List EquationValue) → AllByRecursion HasRows (map (gate_cover label) es)
-gates_have label [] = tt
-gates_have label (e ∷ es) = (rows, gates_have label es) where
-  rows : HasRows (gate_cover label e)
-  rows = subst (λ (n : ℕ). AllByRecursion (λ (row : List ℕ). length row ≡ n) (gate_cover label e).rows) (sym (length-map (variables e.operands) (λ (r : WireRef). node_name label r.wire.0))) (cells_count (length (variables e.operands)) _)
-
-output_has : (label : ℕ → Option (List ℕ)) (name : List ℕ) (r : WireRef) → HasRows (output_cover label name r)
-output_has label name r = by (eqb r.wire.0 0) r.complement where
-  by : (constant complement : Bool) → HasRows (cond constant (record { operands = []; target = name; rows = cond complement ([] ∷ []) [] }) (record { operands = node_name label r.wire.0 ∷ []; target = name; rows = cond complement (codes "0") (codes "1") ∷ [] }))
-  by true true = (refl, tt)
-  by true false = tt
-  by false true = (refl, tt)
-  by false false = (refl, tt)
-
-outputs_have : (label : ℕ → Option (List ℕ)) (names : List (List ℕ)) (ps : List OutputPort) → AllByRecursion HasRows (output_covers label names ps)
-outputs_have label [] ps = tt
-outputs_have label (name ∷ names) [] = tt
-outputs_have label (name ∷ names) (p ∷ ps) = (output_has label name p.source, outputs_have label names ps)
-
 -- ---- names of outputs are driven
 
 driven_seen_at : (xs : List (List ℕ)) → AllByRecursion (λ x. is_seen xs x ≡ true) xs
@@ -139,5 +113,5 @@ written_orderly c wires is plain =
       seen = subst (AllByRecursion (λ x. is_seen names x ≡ true)) (driven_are ins outs (written_covers c)) (driven_seen [] (written_statements c));
       ahead = covers_ahead c is plain;
       shown = outputs_seen c;
-      rows = all_both HasRows (map (gate_cover (label_of c)) c.equations) (output_covers (label_of c) outs c.outputs) (gates_have (label_of c) c.equations) (outputs_have (label_of c) outs c.outputs);
+      rows = rows_fit c;
     }

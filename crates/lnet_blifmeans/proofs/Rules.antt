@@ -10,11 +10,12 @@ use Rattle.lnet_edge.specs.Wires.{input_wires, output_wires, targets, operand_wi
 use Rattle.lnet_wires.specs.Naming.{is_seen, wire_of}
 use Rattle.lnet_wires.proofs.WireLaws.{apart}
 use Rattle.lnet_blif.specs.Numbering.{use_of, input_of, output_of}
-use Rattle.lnet_benchmeans.proofs.Differing.{Differ, all_both, all_first, all_second, differ_mapped, differ_second, differ_apart}
+use Rattle.lnet_benchmeans.proofs.Differing.{Differ, all_both, all_weak, all_first, all_second, differ_mapped, differ_second, differ_apart}
 use Rattle.lnet_benchmeans.proofs.Falling.{IsAhead, all_used, never_back}
 use Rattle.lnet_benchmeans.proofs.Ordering.{HoldsOf, holds_all, behind}
 use Rattle.lnet_benchmeans.proofs.Wires.{above_zero, once_differ}
 use Rattle.lnet_bliftext.specs.Written.{CoverLines}
+use Rattle.lnet_bliftext.proofs.CoverForms.{IsRowOf, FitsRows}
 use Rattle.lnet_blifmeans.proofs.Shape.{cover_targets, equation_of, shaped}
 
 -- behind these names, each cover uses names that are driven before it
@@ -22,17 +23,13 @@ abbrev pub AreAhead : List (List ℕ) → List CoverLines → Type 0
 AreAhead known [] = Unit {0}
 AreAhead known (k ∷ ks) = AllByRecursion (λ x. is_seen known x ≡ true) k.operands × AreAhead (k.target ∷ known) ks
 
--- each row has a byte for each operand
-abbrev pub HasRows : CoverLines → Type 0
-HasRows k = AllByRecursion (λ (row : List ℕ). length row ≡ length k.operands) k.rows
-
 -- covers in order between ports: no name is driven twice, each cover uses names driven before it, outputs are driven
 pub record IsOrderly (names ins outs : List (List ℕ)) (ks : List CoverLines) : Type 0 where
   pub once : Differ (ins ++ cover_targets ks)
   pub seen : AllByRecursion (λ x. is_seen names x ≡ true) (ins ++ cover_targets ks)
   pub ahead : AreAhead ins ks
   pub shown : AllByRecursion (λ x. is_seen (ins ++ cover_targets ks) x ≡ true) outs
-  pub rows : AllByRecursion HasRows ks
+  pub rows : AllByRecursion FitsRows ks
 
 -- ---- the wires that are driven
 
@@ -103,10 +100,10 @@ never_undriven names ins outs ks is (w, used, undriven) =
 
 -- ---- all rules
 
-rows_fit : (names : List (List ℕ)) (ks : List CoverLines) → AllByRecursion HasRows ks → AllByRecursion (λ (e : EquationValue). HasArity e.rule (length e.operands)) (map (equation_of names) ks)
+rows_fit : (names : List (List ℕ)) (ks : List CoverLines) → AllByRecursion FitsRows ks → AllByRecursion (λ (e : EquationValue). HasArity e.rule (length e.operands)) (map (equation_of names) ks)
 rows_fit names [] all = tt
 rows_fit names (k ∷ ks) all = (
-  subst (λ (n : ℕ). HasArity (equation_of names k).rule n) (sym (length-map k.operands (use_of names))) (All-from_recursion (λ (row : List ℕ). length row ≡ length k.operands) k.rows all.0),
+  subst (λ (n : ℕ). HasArity (equation_of names k).rule n) (sym (length-map k.operands (use_of names))) (All-from_recursion (λ (row : List ℕ). length row ≡ length k.operands) k.rows (all_weak (IsRowOf (length k.operands)) (λ (row : List ℕ). length row ≡ length k.operands) k.rows (λ row fits. fits.1) all.0)),
   rows_fit names ks all.1,
 )
 

@@ -1,5 +1,5 @@
 -- Lines of commands with names, and what they say.
-use Rattle.std.proofs.Common.{◌≡◌, ℕ, suc, ◌-◌, Bool, true, false, cond, eqb, List, [], ◌∷◌, ◌++◌, length, take, get_or, Result, Ok, Err, codes, refl, sym, ap, ◌∙◌, append_assoc, arith, length-append}
+use Rattle.std.proofs.Common.{◌≡◌, ℕ, suc, ◌-◌, Bool, true, false, cond, eqb, List, [], ◌∷◌, ◌++◌, length, take, get_or, Result, Ok, Err, codes, refl, ap, ◌∙◌, arith, length-append}
 use Rattle.std.specs.List.{list_all, flat_map}
 use Rattle.std.proofs.lemmas.Bool.Decides.{nat_tests}
 use Rattle.std.proofs.lemmas.List.{append-nil, take_at, get_or_at}
@@ -9,11 +9,10 @@ use Rattle.lnet_edge.specs.declared.fault.Fault.TheVariants as faults
 use Rattle.lnet_words.specs.Cutting.{words_of}
 use Rattle.lnet_blif.specs.Listing.{Standing, AtFirst, AtOutside, AtInside, AtBehind, position_of}
 use Rattle.lnet_blif.specs.Statements.{StatementValue, Inputs, Outputs, Names, cover_by, statement_at}
-use Rattle.lnet_blifwriter.specs.Texts.{spaced, words_line}
+use Rattle.lnet_blifwriter.specs.Texts.{spaced}
 use Rattle.lnet_benchtext.proofs.Cutting.{both_true, all-append, IsWord, words_alone, words_before}
 use Rattle.lnet_bliftext.proofs.WrittenNames.{is_kept_byte, is_written, name_word, spaced_kept}
 use Rattle.lnet_bliftext.proofs.Lines.{HasWords}
-use Rattle.lnet_bliftext.proofs.Spelling.{Spells, spells_line}
 
 -- behind the first line, and not behind the end
 abbrev pub IsOpen : Standing → Type 0
@@ -40,27 +39,19 @@ has_words word names is kept all = record {
 
 -- ---- ports
 
-inputs_say : (names : List (List ℕ)) (p : Standing) → IsOpen p → statement_at (position_of p) (codes ".inputs" ∷ names) ≡ Ok (Inputs names)
+pub inputs_say : (names : List (List ℕ)) (p : Standing) → IsOpen p → statement_at (position_of p) (codes ".inputs" ∷ names) ≡ Ok (Inputs names)
 unfolding statement_at
 inputs_say names AtFirst at = absurd at
 inputs_say names AtOutside at = refl
 inputs_say names (AtInside t) at = refl
 inputs_say names AtBehind at = absurd at
 
-outputs_say : (names : List (List ℕ)) (p : Standing) → IsOpen p → statement_at (position_of p) (codes ".outputs" ∷ names) ≡ Ok (Outputs names)
+pub outputs_say : (names : List (List ℕ)) (p : Standing) → IsOpen p → statement_at (position_of p) (codes ".outputs" ∷ names) ≡ Ok (Outputs names)
 unfolding statement_at
 outputs_say names AtFirst at = absurd at
 outputs_say names AtOutside at = refl
 outputs_say names (AtInside t) at = refl
 outputs_say names AtBehind at = absurd at
-
-pub spells_inputs : (names : List (List ℕ)) → list_all is_written names ≡ true → Spells IsOpen (words_line (codes ".inputs") names) (Inputs names ∷ [])
-spells_inputs names all =
-    spells_line IsOpen (codes ".inputs" ++ flat_map spaced names) (words_line (codes ".inputs") names) (codes ".inputs") names (Inputs names) (sym (append_assoc (codes ".inputs") (flat_map spaced names) (10 ∷ []))) (has_words (codes ".inputs") names (record { some = refl; whole = refl }) refl all) (inputs_say names) (λ p at. (AtOutside, refl, tt))
-
-pub spells_outputs : (names : List (List ℕ)) → list_all is_written names ≡ true → Spells IsOpen (words_line (codes ".outputs") names) (Outputs names ∷ [])
-spells_outputs names all =
-    spells_line IsOpen (codes ".outputs" ++ flat_map spaced names) (words_line (codes ".outputs") names) (codes ".outputs") names (Outputs names) (sym (append_assoc (codes ".outputs") (flat_map spaced names) (10 ∷ []))) (has_words (codes ".outputs") names (record { some = refl; whole = refl }) refl all) (outputs_say names) (λ p at. (AtOutside, refl, tt))
 
 -- ---- covers
 

@@ -1,9 +1,8 @@
 pub mod WrittenNames
 pub mod Lines
-pub mod Spelling
 pub mod Commands
 pub mod Rows
-pub mod Covers
-pub mod Texts
+pub mod CoverForms
 pub mod LineTexts
 pub mod LineWords
+pub mod Reading

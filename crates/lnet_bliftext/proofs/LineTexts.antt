@@ -13,7 +13,6 @@ use Rattle.lnet_nodes.specs.Rows.{variables, gate_value}
 use Rattle.lnet_blif.specs.Statements.{StatementValue, Model, Inputs, Outputs, Names, Row, End}
 use Rattle.lnet_blifwriter.specs.Texts.{spaced, words_line, operand_names, row_cells, row_line, rows_text, gate_text, output_text, outputs_text, covers_text, blif_text}
 use Rattle.lnet_bliftext.specs.Written.{CoverLines, true_row, cover_statements, true_rows, gate_cover, output_cover, output_covers, written_covers, written_statements}
-use Rattle.lnet_bliftext.proofs.Covers.{names_text, names_cut, one_operand}
 
 -- a row without its newline
 abbrev pub row_bytes : List ℕ → Bool → List ℕ
@@ -50,6 +49,18 @@ rows_are value k (row ∷ rows) = by (value row) (rows_are value k rows) where
 
 -- ---- covers
 
+-- `.names` with these operands and this target
+abbrev names_text : List (List ℕ) → List ℕ → List ℕ
+names_text operands target = codes ".names" ++ (flat_map spaced operands ++ (spaced target ++ 10 ∷ []))
+
+names_cut : (operands : List (List ℕ)) (target rest : List ℕ) → names_text operands target ++ rest ≡ (codes ".names" ++ flat_map spaced (operands ++ target ∷ [])) ++ 10 ∷ rest
+names_cut operands target rest =
+    let joined : flat_map spaced (operands ++ target ∷ []) ≡ flat_map spaced operands ++ spaced target = flat_map-append spaced operands (target ∷ []) ∙ ap (λ (t : List ℕ). flat_map spaced operands ++ t) (append-nil (spaced target)) in
+    let whole : flat_map spaced operands ++ (spaced target ++ 10 ∷ []) ≡ flat_map spaced (operands ++ target ∷ []) ++ 10 ∷ [] = sym (append_assoc (flat_map spaced operands) (spaced target) (10 ∷ [])) ∙ ap (λ (t : List ℕ). t ++ 10 ∷ []) (sym joined) in
+    ap (λ (t : List ℕ). (codes ".names" ++ t) ++ rest) whole
+    ∙ ap (λ (t : List ℕ). codes ".names" ++ t) (append_assoc (flat_map spaced (operands ++ target ∷ [])) (10 ∷ []) rest)
+    ∙ sym (append_assoc (codes ".names") (flat_map spaced (operands ++ target ∷ [])) (10 ∷ rest))
+
 cover_is : (operands : List (List ℕ)) (target text : List ℕ) (rows : List (List ℕ)) → text ≡ text_of (map true_row rows) → names_text operands target ++ text ≡ text_of (cover_statements (record { operands = operands; target = target; rows = rows }))
 cover_is operands target text rows is =
     names_cut operands target text
@@ -68,6 +79,12 @@ gates_are label (e ∷ es) =
 constant_is : (name : List ℕ) (value : Bool) → codes ".names " ++ (name ++ (if value then codes "\n1\n" else codes "\n")) ≡ text_of (cover_statements (record { operands = []; target = name; rows = if value then [] ∷ [] else [] }))
 constant_is name true = sym (ap (λ (t : List ℕ). codes ".names " ++ t) (append_assoc name (10 ∷ []) (codes "1\n"))) ∙ cover_is [] name (codes "1\n") ([] ∷ []) refl
 constant_is name false = sym (append-nil (names_text [] name)) ∙ cover_is [] name [] [] refl
+
+one_operand : (node name rest : List ℕ) → names_text (node ∷ []) name ++ rest ≡ codes ".names " ++ (node ++ (32 ∷ (name ++ 10 ∷ rest)))
+one_operand node name rest =
+    ap (λ (t : List ℕ). (codes ".names " ++ (t ++ (spaced name ++ 10 ∷ []))) ++ rest) (append-nil node)
+    ∙ ap (λ (t : List ℕ). codes ".names " ++ t) (append_assoc node (spaced name ++ 10 ∷ []) rest)
+    ∙ ap (λ (t : List ℕ). codes ".names " ++ (node ++ (32 ∷ t))) (append_assoc name (10 ∷ []) rest)
 
 shown_is : (node name : List ℕ) (complement : Bool) → codes ".names " ++ (node ++ (32 ∷ (name ++ (if complement then codes "\n0 1\n" else codes "\n1 1\n")))) ≡ text_of (cover_statements (record { operands = node ∷ []; target = name; rows = (if complement then codes "0" else codes "1") ∷ [] }))
 shown_is node name true = sym (one_operand node name (codes "0 1\n")) ∙ cover_is (node ∷ []) name (codes "0 1\n") (codes "0" ∷ []) refl

@@ -1,19 +1,18 @@
 -- The rows of a cover whose target is true.
-use Rattle.std.proofs.Common.{◌≡◌, ℕ, zero, suc, ◌/◌, ◌%◌, Bool, true, false, cond, eqb, List, [], ◌∷◌, ◌++◌, length, map, Some, Ok, Err, codes, None, refl, sym, ap, subst, ◌∙◌, append_assoc, arith}
+use Rattle.std.proofs.Common.{◌≡◌, ℕ, zero, suc, ◌/◌, ◌%◌, Bool, true, false, cond, eqb, List, [], ◌∷◌, ◌++◌, length, Some, Ok, Err, codes, None, refl, sym, ap, ◌∙◌, arith}
 use Rattle.std.specs.Prelude.{not, if◌then◌else◌}
-use Rattle.std.specs.List.{list_all, filter}
+use Rattle.std.specs.List.{list_all}
 use Rattle.std.proofs.lemmas.Bool.Decides.{nat_tests}
 use Rattle.lnet_edge.specs.declared.fault.Fault.TheVariants as faults
 use Rattle.lnet_edge.specs.Covers.{CoverValue, is_cell, is_row}
 use Rattle.lnet_words.specs.Cutting.{is_blank}
 use Rattle.lnet_blif.specs.Listing.{Standing, AtFirst, AtOutside, AtInside, AtBehind, first_value, position_of}
-use Rattle.lnet_blif.specs.Statements.{row_with, row_of, agrees, row_agreeing, row_at, command_at, command_of, statement_at}
-use Rattle.lnet_blifwriter.specs.Texts.{row_cells, row_line, rows_text}
+use Rattle.lnet_blif.specs.Statements.{StatementValue, row_with, row_of, agrees, row_agreeing, row_at, command_at, command_of, statement_at, after}
+use Rattle.lnet_blifwriter.specs.Texts.{row_cells}
 use Rattle.lnet_benchtext.proofs.Cutting.{both_true, true_both, all-append, all_weaker, some_bytes, words_before}
-use Rattle.lnet_bliftext.specs.Written.{true_row}
+use Rattle.lnet_bliftext.specs.Written.{true_row, row_words}
 use Rattle.lnet_bliftext.proofs.WrittenNames.{is_kept_byte}
 use Rattle.lnet_bliftext.proofs.Lines.{HasWords}
-use Rattle.lnet_bliftext.proofs.Spelling.{LeavesFor, Spells, spells_line, spells_none, spells_then}
 
 -- in a cover of so many operands, whose rows so far have a true target
 abbrev pub IsInside : ℕ → Standing → Type 0
@@ -22,8 +21,12 @@ IsInside k AtOutside = ⊥
 IsInside k (AtInside t) = (length t.operands ≡ k) × (agrees (first_value t.cover.value t.cover.rows) true ≡ true)
 IsInside k AtBehind = ⊥
 
+-- behind the statement the position is one of the kind
+abbrev pub LeavesFor : (Standing → Type 0) → Standing → StatementValue → Type 0
+LeavesFor At p s = (q : Standing) × (after (position_of p) s ≡ position_of q) × At q
+
 -- a further row leaves the cover at its operands
-stays : (k : ℕ) (cells : List ℕ) (p : Standing) → IsInside k p → LeavesFor (IsInside k) p (true_row cells)
+pub stays : (k : ℕ) (cells : List ℕ) (p : Standing) → IsInside k p → LeavesFor (IsInside k) p (true_row cells)
 stays k cells AtFirst at = absurd at
 stays k cells AtOutside at = absurd at
 stays k cells (AtInside t) at = by t.cover.rows at.1 where
@@ -64,11 +67,11 @@ cell_kept b e = grind (arith, nat_tests)
 cell_full : (b : ℕ) → is_cell b ≡ true → not (is_blank b) ≡ true
 cell_full b e = grind (arith, nat_tests)
 
-same : (n : ℕ) → eqb n n ≡ true
-same n = grind (arith, nat_tests)
+match : (n : ℕ) → eqb n n ≡ true
+match n = grind (arith, nat_tests)
 
 row_of-cells : (cells : List ℕ) → is_row cells ≡ true → row_of (length cells) (cells ∷ codes "1" ∷ []) ≡ Some (record { cells = cells; value = true })
-row_of-cells cells row = ap (λ (t : Bool). cond t (row_with cells (Some true)) None) (true_both (eqb (length cells) (length cells)) (is_row cells) (same (length cells)) row)
+row_of-cells cells row = ap (λ (t : Bool). cond t (row_with cells (Some true)) None) (true_both (eqb (length cells) (length cells)) (is_row cells) (match (length cells)) row)
 
 pub cells_words : (b : ℕ) (bs : List ℕ) → is_row (b ∷ bs) ≡ true → HasWords ((b ∷ bs) ++ codes " 1") ((b ∷ bs) ∷ codes "1" ∷ [])
 cells_words b bs row = record {
@@ -76,18 +79,12 @@ cells_words b bs row = record {
   cut = words_before (b ∷ bs) (codes "1") (record { some = some_bytes b bs; whole = all_weaker is_cell (λ c. not (is_blank c)) (b ∷ bs) cell_full row });
 }
 
-pub spells_row : (b : ℕ) (bs : List ℕ) → is_row (b ∷ bs) ≡ true → Spells (IsInside (length (b ∷ bs))) ((b ∷ bs) ++ codes " 1\n") (true_row (b ∷ bs) ∷ [])
-spells_row b bs row =
-    spells_line (IsInside (length (b ∷ bs))) ((b ∷ bs) ++ codes " 1") ((b ∷ bs) ++ codes " 1\n") (b ∷ bs) (codes "1" ∷ []) (true_row (b ∷ bs)) (sym (append_assoc (b ∷ bs) (codes " 1") (10 ∷ []))) (cells_words b bs row)
-    (λ p at. line_says (length (b ∷ bs)) b bs (codes "1" ∷ []) p at (no_command b (both_true (is_cell b) (list_all is_cell bs) row).0) ∙ row_says (length (b ∷ bs)) (b ∷ bs) ((b ∷ bs) ∷ codes "1" ∷ []) p (row_of-cells (b ∷ bs) row) at)
-    (stays (length (b ∷ bs)) (b ∷ bs))
+-- ---- rows of so many operands
 
--- without operands the value stands alone
-pub spells_true : Spells (IsInside 0) (codes "1\n") (true_row [] ∷ [])
-spells_true =
-    spells_line (IsInside 0) (codes "1") (codes "1\n") (codes "1") [] (true_row []) refl (record { bytes = refl; cut = refl })
-    (λ p at. line_says 0 49 [] [] p at refl ∙ row_says 0 [] (codes "1" ∷ []) p refl at)
-    (stays 0 [])
+pub row_is_said : (k : ℕ) (row : List ℕ) (p : Standing) → is_row row ≡ true → length row ≡ k → IsInside k p → statement_at (position_of p) (row_words row true) ≡ Ok (true_row row)
+row_is_said k [] p row same at = line_says k 49 [] [] p at refl ∙ row_says k [] (codes "1" ∷ []) p (ap (λ (m : ℕ). row_of m (codes "1" ∷ [])) (sym same)) at
+row_is_said k (b ∷ bs) p row same at =
+    line_says k b bs (codes "1" ∷ []) p at (no_command b (both_true (is_cell b) (list_all is_cell bs) row).0) ∙ row_says k (b ∷ bs) ((b ∷ bs) ∷ codes "1" ∷ []) p (ap (λ (m : ℕ). row_of m ((b ∷ bs) ∷ codes "1" ∷ [])) (sym same) ∙ row_of-cells (b ∷ bs) row) at
 
 -- ---- the rows of a gate
 
@@ -102,16 +99,3 @@ row_cells-row (suc k) row = true_both (is_cell (if eqb (row % 2) 1 then 49 else 
 pub length-row_cells : (k row : ℕ) → length (row_cells k row) ≡ k
 length-row_cells zero row = refl
 length-row_cells (suc k) row = ap suc (length-row_cells k (row / 2))
-
-spells_row_line : (k row : ℕ) → Spells (IsInside k) (row_line k row) (true_row (row_cells k row) ∷ [])
-spells_row_line zero row = spells_true
-spells_row_line (suc k) row =
-    subst (λ (n : ℕ). Spells (IsInside n) (row_line (suc k) row) (true_row (row_cells (suc k) row) ∷ [])) (length-row_cells (suc k) row) (spells_row (if eqb (row % 2) 1 then 49 else 48) (row_cells k (row / 2)) (row_cells-row (suc k) row))
-
--- a line for each of these rows that is true
-pub spells_rows : (value : ℕ → Bool) (k : ℕ) (rows : List ℕ) → Spells (IsInside k) (rows_text value k rows) (map true_row (map (row_cells k) (filter value rows)))
-spells_rows value k [] = spells_none (IsInside k)
-spells_rows value k (row ∷ rows) = by (value row) (spells_rows value k rows) where
-  by : (b : Bool) → Spells (IsInside k) (rows_text value k rows) (map true_row (map (row_cells k) (filter value rows))) → Spells (IsInside k) ((if b then row_line k row else []) ++ rows_text value k rows) (map true_row (map (row_cells k) (cond b (row ∷ filter value rows) (filter value rows))))
-  by true later = spells_then (IsInside k) (row_line k row) (rows_text value k rows) (true_row (row_cells k row) ∷ []) (map true_row (map (row_cells k) (filter value rows))) (spells_row_line k row) later
-  by false later = later

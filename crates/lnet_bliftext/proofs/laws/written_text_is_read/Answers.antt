@@ -1,4 +1,4 @@
-use Rattle.lnet_bliftext.proofs.Texts.{written-read}
+use Rattle.lnet_bliftext.proofs.Reading.{written-read}
 use Rattle.lnet_bliftext.proofs.laws.written_text_is_read.Goals as goal
 
 pub returns : goal.returns

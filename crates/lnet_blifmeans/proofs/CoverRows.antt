@@ -1,31 +1,26 @@
 -- A cover with a row for each true one has the value of the row that its operands make.
-use Rattle.std.proofs.Common.{◌≡◌, ◌≢◌, ℕ, zero, suc, ◌+◌, ◌*◌, ◌/◌, ◌%◌, ◌^◌, ◌<◌, ◌≤◌, Bool, true, false, cond, eqb, List, [], ◌∷◌, length, map, refl, sym, ap, ◌∙◌, inl, inr, arith}
+use Rattle.std.proofs.Common.{◌≡◌, eq-eqb, ◌≢◌, ℕ, zero, suc, ◌+◌, ◌*◌, ◌/◌, ◌%◌, ◌^◌, ◌<◌, ◌≤◌, Bool, true, false, cond, eqb, List, [], ◌∷◌, length, map, refl, sym, ap, ◌∙◌, inl, inr, arith}
 use Rattle.std.specs.Prelude.{◌⊎◌, ◌&&◌, ◌||◌, if◌then◌else◌}
 use Rattle.std.specs.List.{list_any, filter, range_with_len}
+use Rattle.std.proofs.Math.Nat.{pow-suc}
 use Rattle.std.proofs.lemmas.Bool.{ne_eqb}
-use Rattle.std.proofs.lemmas.Bool.Decides.{nat_tests, eqb_tells}
-use native.Mathlib.Numerals.{unary_clauses}
+use Rattle.std.proofs.lemmas.Bool.Decides.{eqb_tells}
 use Rattle.lnet_edge.specs.Values.{row_number, cell_holds, row_holds, cover_value}
 use Rattle.lnet_blifwriter.specs.Texts.{row_cells}
+use Rattle.lnet_benchtext.proofs.Cutting.{not_none}
 use Rattle.lnet_bliftext.specs.Written.{true_rows}
 use Rattle.lnet_blifmeans.proofs.Shape.{true_cover}
 
-eqb_same : (p q : ℕ) → p ≡ q → eqb p q ≡ true
-eqb_same p q e = elim (eqb_tells p q) as (λ _. eqb p q ≡ true) [ inl h ↦ h.0 | inr h ↦ absurd (h.1 e) ]
-
 -- ---- the row that holds
-
-pub pow_more : (k : ℕ) → 2 ^ suc k ≡ 2 * 2 ^ k
-pow_more k = simp unary_clauses (omega arith)
 
 pub row_below : (bits : List Bool) → row_number bits < 2 ^ length bits
 row_below [] = omega arith
 row_below (b ∷ bs) =
     let low = row_below bs in
-    let more = pow_more (length bs) in
+    let more = pow-suc 2 (length bs) in
     by b more low
   where
-    by : (t : Bool) → 2 ^ suc (length bs) ≡ 2 * 2 ^ length bs → row_number bs < 2 ^ length bs → (if t then 1 else 0) + 2 * row_number bs < 2 ^ suc (length bs)
+    by : (t : Bool) → 2 ^ suc (length bs) ≡ 2 ^ length bs * 2 → row_number bs < 2 ^ length bs → (if t then 1 else 0) + 2 * row_number bs < 2 ^ suc (length bs)
     by true more low = omega arith
     by false more low = omega arith
 
@@ -33,22 +28,22 @@ bit_tells : (r n : ℕ) (b : Bool) (bit : ℕ) → r % 2 ≡ bit → bit < 2 →
 bit_tells r n true zero is low = sym (ne_eqb r (1 + 2 * n) (λ e. omega arith))
 bit_tells r n false zero is low = by (eqb_tells (r / 2) n) where
   by : ((eqb (r / 2) n ≡ true) × (r / 2 ≡ n)) ⊎ ((eqb (r / 2) n ≡ false) × (r / 2 ≢ n)) → eqb (r / 2) n ≡ eqb r (0 + 2 * n)
-  by (inl h) = let same : r ≡ 0 + 2 * n = omega arith in h.0 ∙ sym (eqb_same r (0 + 2 * n) same)
+  by (inl h) = let same : r ≡ 0 + 2 * n = omega arith in h.0 ∙ sym (eq-eqb r (0 + 2 * n) same)
   by (inr h) = let other = h.1 in h.0 ∙ sym (ne_eqb r (0 + 2 * n) (λ e. other (omega arith)))
 bit_tells r n true (suc zero) is low = by (eqb_tells (r / 2) n) where
   by : ((eqb (r / 2) n ≡ true) × (r / 2 ≡ n)) ⊎ ((eqb (r / 2) n ≡ false) × (r / 2 ≢ n)) → eqb (r / 2) n ≡ eqb r (1 + 2 * n)
-  by (inl h) = let same : r ≡ 1 + 2 * n = omega arith in h.0 ∙ sym (eqb_same r (1 + 2 * n) same)
+  by (inl h) = let same : r ≡ 1 + 2 * n = omega arith in h.0 ∙ sym (eq-eqb r (1 + 2 * n) same)
   by (inr h) = let other = h.1 in h.0 ∙ sym (ne_eqb r (1 + 2 * n) (λ e. other (omega arith)))
 bit_tells r n false (suc zero) is low = sym (ne_eqb r (0 + 2 * n) (λ e. omega arith))
 bit_tells r n b (suc (suc k)) is low = absurd (omega arith)
 
 -- a row holds where it is that of the operands' values
 pub row_tells : (k r : ℕ) (bits : List Bool) → r < 2 ^ k → length bits ≡ k → row_holds (row_cells k r) bits ≡ eqb r (row_number bits)
-row_tells zero r [] low same = sym (eqb_same r 0 (omega arith))
+row_tells zero r [] low same = sym (eq-eqb r 0 (omega arith))
 row_tells zero r (b ∷ bs) low same = absurd (omega arith)
 row_tells (suc k) r [] low same = absurd (omega arith)
 row_tells (suc k) r (b ∷ bs) low same =
-    let more = pow_more k in
+    let more = pow-suc 2 k in
     ap (λ (t : Bool). cell_holds (if eqb (r % 2) 1 then 49 else 48) b && t) (row_tells k (r / 2) bs (omega arith) (omega arith)) ∙ bit_tells r (row_number bs) b (r % 2) refl (omega arith)
 
 -- ---- rows among others
@@ -82,12 +77,9 @@ one_among p value n a (suc m) tells low high = elim (eqb_tells a n) as (λ _. li
 
 -- ---- covers
 
-some_rows : (n : ℕ) → eqb (suc n) 0 ≡ false
-some_rows n = grind (arith, nat_tests)
-
 pub true_cover-value : (rows : List (List ℕ)) (bits : List Bool) → cover_value (true_cover rows) bits ≡ list_any (λ (row : List ℕ). row_holds row bits) rows
 true_cover-value [] bits = refl
-true_cover-value (row ∷ rows) bits = ap (λ (b : Bool). cond b false (list_any (λ (r : List ℕ). row_holds r bits) (row ∷ rows))) (some_rows (length rows))
+true_cover-value (row ∷ rows) bits = ap (λ (b : Bool). cond b false (list_any (λ (r : List ℕ). row_holds r bits) (row ∷ rows))) (not_none (length rows))
 
 any_mapped : (f : ℕ → List ℕ) (p : List ℕ → Bool) (rows : List ℕ) → list_any p (map f rows) ≡ list_any (λ (r : ℕ). p (f r)) rows
 any_mapped f p [] = refl

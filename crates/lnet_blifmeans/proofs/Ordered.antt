@@ -1,5 +1,5 @@
 -- The covers of a written text are in order.
-use Rattle.std.proofs.Common.{◌≡◌, ◌≢◌, ℕ, Bool, true, false, cond, eqb, List, [], ◌∷◌, ◌++◌, map, Option, codes, sym, subst, inl, inr}
+use Rattle.std.proofs.Common.{◌≡◌, ◌≢◌, ℕ, Bool, true, false, cond, eqb, List, [], ◌∷◌, ◌++◌, map, Option, sym, subst, inl, inr}
 use Rattle.std.specs.Prelude.{◌⊎◌, not, Contains, flat_map}
 use Rattle.std.specs.Cmp.Lexicographic.{nat_list_eq_equiv}
 use Rattle.std.specs.List.{AllByRecursion}
@@ -26,7 +26,7 @@ use Rattle.lnet_benchmeans.proofs.Nodes.{input_named}
 use Rattle.lnet_benchmeans.proofs.Tables.{AreNamed, more_named, more_seen}
 use Rattle.lnet_benchmeans.proofs.TableForm.{gates_named, shown_met}
 use Rattle.lnet_bliftext.specs.Written.{CoverLines, gate_cover, output_cover, output_covers, written_covers, written_statements}
-use Rattle.lnet_bliftext.proofs.CoverForms.{rows_fit}
+use Rattle.lnet_bliftext.proofs.CoverForms.{shown_by, rows_fit}
 use Rattle.lnet_blifmeans.proofs.Shape.{cover_targets, driven_are}
 use Rattle.lnet_blifmeans.proofs.Seen.{driven_seen}
 use Rattle.lnet_blifmeans.proofs.Once.{targets_are, names_differ}
@@ -66,7 +66,7 @@ gates_then label (e ∷ es) ks known K ahead each named rest = (
 
 -- the covers of outputs, by whether they show a constant
 abbrev pub cover_showing : (ℕ → Option (List ℕ)) → List ℕ → WireRef → Bool → CoverLines
-cover_showing label name r constant = cond constant (record { operands = []; target = name; rows = cond r.complement ([] ∷ []) [] }) (record { operands = node_name label r.wire.0 ∷ []; target = name; rows = cond r.complement (codes "0") (codes "1") ∷ [] })
+cover_showing label name r constant = shown_by label name r constant r.complement
 
 shown_then : (label : ℕ → Option (List ℕ)) (L : ℕ → Type 0) (known : List (List ℕ)) (name : List ℕ) (r : WireRef) (ks : List CoverLines) → AreNamed label L known → ((r.wire.0 ≡ 0) ⊎ L r.wire.0) → AreAhead (name ∷ known) ks → AreAhead known (output_cover label name r ∷ ks)
 shown_then label L known name r ks each (inl is) rest = subst (λ (w : ℕ). AreAhead known (cover_showing label name r (eqb w 0) ∷ ks)) (sym is) (tt, rest)

@@ -1,7 +1,6 @@
 -- Lines of commands with names, and what they say.
-use Rattle.std.proofs.Common.{◌≡◌, ℕ, suc, ◌-◌, Bool, true, false, cond, eqb, List, [], ◌∷◌, ◌++◌, length, take, get_or, Result, Ok, Err, codes, refl, ap, ◌∙◌, arith, length-append}
+use Rattle.std.proofs.Common.{◌≡◌, ℕ, suc, ◌-◌, Bool, true, cond, eqb, List, [], ◌∷◌, ◌++◌, length, take, get_or, Result, Ok, Err, codes, refl, ap, ◌∙◌, arith, length-append}
 use Rattle.std.specs.List.{list_all, flat_map}
-use Rattle.std.proofs.lemmas.Bool.Decides.{nat_tests}
 use Rattle.std.proofs.lemmas.List.{append-nil, take_at, get_or_at}
 use Rattle.std.proofs.lemmas.List.Concat.{flat_map-cons}
 use Rattle.lnet_edge.specs.declared.fault.Fault.{Fault}
@@ -10,7 +9,7 @@ use Rattle.lnet_words.specs.Cutting.{words_of}
 use Rattle.lnet_blif.specs.Listing.{Standing, AtFirst, AtOutside, AtInside, AtBehind, position_of}
 use Rattle.lnet_blif.specs.Statements.{StatementValue, Inputs, Outputs, Names, cover_by, statement_at}
 use Rattle.lnet_blifwriter.specs.Texts.{spaced}
-use Rattle.lnet_benchtext.proofs.Cutting.{both_true, all-append, IsWord, words_alone, words_before}
+use Rattle.lnet_benchtext.proofs.Cutting.{not_none, both_true, all-append, IsWord, words_alone, words_before}
 use Rattle.lnet_bliftext.proofs.WrittenNames.{is_kept_byte, is_written, name_word, spaced_kept}
 use Rattle.lnet_bliftext.proofs.Lines.{HasWords}
 
@@ -63,9 +62,6 @@ cover_in names n = cond (eqb n 0) (Err faults.Syntax) (covered (take (n - 1) nam
 
 last_place : (n : ℕ) → suc n - 1 ≡ n
 last_place n = omega arith
-
-not_none : (n : ℕ) → eqb (suc n) 0 ≡ false
-not_none n = grind (arith, nat_tests)
 
 cover_by-names : (operands : List (List ℕ)) (target : List ℕ) → cover_by (operands ++ target ∷ []) ≡ Ok (Names operands target)
 cover_by-names operands target =

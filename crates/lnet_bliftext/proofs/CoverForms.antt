@@ -30,7 +30,7 @@ pub record HasWritten (k : CoverLines) : Type 0 where
   pub target : is_written k.target ≡ true
 
 -- the cover of an output, by whether it shows a constant, and whether a complement
-abbrev shown_by : (ℕ → Option (List ℕ)) → List ℕ → WireRef → Bool → Bool → CoverLines
+abbrev pub shown_by : (ℕ → Option (List ℕ)) → List ℕ → WireRef → Bool → Bool → CoverLines
 shown_by label name r constant complement = cond constant (record { operands = []; target = name; rows = cond complement ([] ∷ []) [] }) (record { operands = node_name label r.wire.0 ∷ []; target = name; rows = cond complement (codes "0") (codes "1") ∷ [] })
 
 -- ---- rows

@@ -1,7 +1,6 @@
 -- The words of statements are read as the statements, from where they stand.
-use Rattle.std.proofs.Common.{◌≡◌, ℕ, suc, ◌+◌, Bool, true, false, cond, eqb, List, [], ◌∷◌, ◌++◌, length, map, Result, Ok, codes, refl, sym, ap, subst, ◌∙◌, append_assoc, arith}
+use Rattle.std.proofs.Common.{◌≡◌, ℕ, ◌+◌, Bool, true, false, cond, List, [], ◌∷◌, ◌++◌, length, map, Result, Ok, codes, refl, sym, ap, subst, ◌∙◌, append_assoc}
 use Rattle.std.specs.List.{flat_map, AllByRecursion}
-use Rattle.std.proofs.lemmas.Bool.Decides.{nat_tests}
 use Rattle.std.proofs.lemmas.List.{length-map}
 use Rattle.lnet_edge.specs.declared.circuit.WireRef.{WireRef}
 use Rattle.lnet_edge.specs.declared.fault.Fault.{Fault}
@@ -14,6 +13,7 @@ use Rattle.lnet_blif.specs.Texts.{with_first, then_later, statements_from, state
 use Rattle.lnet_blifwriter.specs.Texts.{blif_text}
 use Rattle.lnet_naming.specs.Settling.{input_labels, output_labels}
 use Rattle.lnet_benchtext.specs.Written.{HasNames}
+use Rattle.lnet_benchtext.proofs.Cutting.{not_none}
 use Rattle.lnet_bliftext.specs.Written.{CoverLines, true_row, cover_statements, written_covers, written_statements, statement_words, lines_from}
 use Rattle.lnet_bliftext.proofs.Commands.{IsOpen, inputs_say, outputs_say, names_say}
 use Rattle.lnet_bliftext.proofs.Rows.{IsInside, LeavesFor, stays, row_is_said}
@@ -24,14 +24,11 @@ use Rattle.lnet_bliftext.proofs.LineWords.{written-cut}
 abbrev Reads : (Standing → Type 0) → List StatementValue → Type 0
 Reads At ss = (n : ℕ) (p : Standing) → At p → statements_from (position_of p) (lines_from n (map statement_words ss)) ≡ Ok ss
 
-some_words : (n : ℕ) → eqb (suc n) 0 ≡ false
-some_words n = grind (arith, nat_tests)
-
 -- the statement of a line, and those behind it
 said : (p : Standing) (n : ℕ) (word : List ℕ) (words : List (List ℕ)) (later : List (Result LineWords Malformed)) (s : StatementValue) (more : List StatementValue) → statement_at (position_of p) (word ∷ words) ≡ Ok s → statements_from (after (position_of p) s) later ≡ Ok more
     → statements_from (position_of p) (Ok (record { number = n; words = word ∷ words }) ∷ later) ≡ Ok (s ∷ more)
 said p n word words later s more says rest =
-    ap (λ (b : Bool). cond b (statements_from (position_of p) later) (then_later n (statement_at (position_of p) (word ∷ words)) (λ t. statements_from (after (position_of p) t) later))) (some_words (length words))
+    ap (λ (b : Bool). cond b (statements_from (position_of p) later) (then_later n (statement_at (position_of p) (word ∷ words)) (λ t. statements_from (after (position_of p) t) later))) (not_none (length words))
     ∙ ap (λ (r : Result StatementValue Fault). then_later n r (λ t. statements_from (after (position_of p) t) later)) says
     ∙ ap (with_first s) rest
 

@@ -1,5 +1,5 @@
 -- The rows of a cover whose target is true.
-use Rattle.std.proofs.Common.{◌≡◌, ℕ, zero, suc, ◌/◌, ◌%◌, Bool, true, false, cond, eqb, List, [], ◌∷◌, ◌++◌, length, Some, Ok, Err, codes, None, refl, sym, ap, ◌∙◌, arith}
+use Rattle.std.proofs.Common.{◌≡◌, eq-eqb, ℕ, zero, suc, ◌/◌, ◌%◌, Bool, true, false, cond, eqb, List, [], ◌∷◌, ◌++◌, length, Some, Ok, Err, codes, None, refl, sym, ap, ◌∙◌, arith}
 use Rattle.std.specs.Prelude.{not, if◌then◌else◌}
 use Rattle.std.specs.List.{list_all}
 use Rattle.std.proofs.lemmas.Bool.Decides.{nat_tests}
@@ -67,11 +67,8 @@ cell_kept b e = grind (arith, nat_tests)
 cell_full : (b : ℕ) → is_cell b ≡ true → not (is_blank b) ≡ true
 cell_full b e = grind (arith, nat_tests)
 
-match : (n : ℕ) → eqb n n ≡ true
-match n = grind (arith, nat_tests)
-
 row_of-cells : (cells : List ℕ) → is_row cells ≡ true → row_of (length cells) (cells ∷ codes "1" ∷ []) ≡ Some (record { cells = cells; value = true })
-row_of-cells cells row = ap (λ (t : Bool). cond t (row_with cells (Some true)) None) (true_both (eqb (length cells) (length cells)) (is_row cells) (match (length cells)) row)
+row_of-cells cells row = ap (λ (t : Bool). cond t (row_with cells (Some true)) None) (true_both (eqb (length cells) (length cells)) (is_row cells) (eq-eqb (length cells) (length cells) refl) row)
 
 pub cells_words : (b : ℕ) (bs : List ℕ) → is_row (b ∷ bs) ≡ true → HasWords ((b ∷ bs) ++ codes " 1") ((b ∷ bs) ∷ codes "1" ∷ [])
 cells_words b bs row = record {

@@ -10,3 +10,4 @@ pub mod GateValues
 pub mod OutputValues
 pub mod Reading
 pub mod Lengths
+pub mod Written

@@ -25,7 +25,7 @@ use Rattle.lnet_benchmeans.proofs.Middle.{IsSmall, IsNodeName, IsPortLetter, lab
 
 -- ---- names of ports
 
-length-input_names : (ps : List InputPort) → length (input_names ps) ≡ length ps
+pub length-input_names : (ps : List InputPort) → length (input_names ps) ≡ length ps
 length-input_names [] = refl
 length-input_names (p ∷ ps) = ap suc (length-input_names ps)
 
@@ -34,17 +34,17 @@ length-output_names [] = refl
 length-output_names (p ∷ ps) = ap suc (length-output_names ps)
 
 -- the names that inputs keep
-abbrev kept_of : CircuitValue → List (List ℕ)
+abbrev pub kept_of : CircuitValue → List (List ℕ)
 kept_of c = (settle_all 105 0 [] (input_names c.inputs)).1
 
-inputs_run : (c : CircuitValue) → IsCircuit c → IsRun 105 0 (0 + length (input_names c.inputs)) [] (settle_all 105 0 [] (input_names c.inputs))
+pub inputs_run : (c : CircuitValue) → IsCircuit c → IsRun 105 0 (0 + length (input_names c.inputs)) [] (settle_all 105 0 [] (input_names c.inputs))
 inputs_run c is = runs 105 0 [] (input_names c.inputs) refl (let n = length-input_names c.inputs in let few = is.few in omega arith)
 
-outputs_run : (c : CircuitValue) → IsCircuit c → IsRun 111 0 (0 + length (output_names c.outputs)) (kept_of c) (settle_all 111 0 (kept_of c) (output_names c.outputs))
+pub outputs_run : (c : CircuitValue) → IsCircuit c → IsRun 111 0 (0 + length (output_names c.outputs)) (kept_of c) (settle_all 111 0 (kept_of c) (output_names c.outputs))
 outputs_run c is = runs 111 0 (kept_of c) (output_names c.outputs) refl (let n = length-output_names c.outputs in let few = is.few_outputs in omega arith)
 
 -- a name of an input, and one of an output
-ports_apart : (m n : ℕ) (kept : List (List ℕ)) → m ≤ 2 ^ 64 → n ≤ 2 ^ 64 → (x y : List ℕ) → IsLabel 105 0 m kept true x → IsLabel 111 0 n kept false y → x ≢ y
+pub ports_apart : (m n : ℕ) (kept : List (List ℕ)) → m ≤ 2 ^ 64 → n ≤ 2 ^ 64 → (x y : List ℕ) → IsLabel 105 0 m kept true x → IsLabel 111 0 n kept false y → x ≢ y
 ports_apart m n kept first second x y (inl p) (inl q) e = letters_apart 105 111 p.0 q.0 (λ h. omega arith) (sym p.3 ∙ e ∙ q.3)
 ports_apart m n kept first second x y (inl p) (inr q) e = let low = p.2 in made_apart 105 p.0 y refl (omega arith) q.0 (sym p.3 ∙ e)
 ports_apart m n kept first second x y (inr p) (inl q) e = let low = q.2 in made_apart 111 q.0 x refl (omega arith) p.0 (sym (e ∙ q.3))

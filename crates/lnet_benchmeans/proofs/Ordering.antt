@@ -24,13 +24,13 @@ use Rattle.lnet_benchmeans.proofs.Falling.{IsAhead, all_used, never_back}
 match_apart : (x y : List ℕ) → bytes_eq x y ≡ false → x ≢ y
 match_apart x y unlike e = false≢true (sym unlike ∙ (bytes_eq-Decides x y).1 e)
 
-distinct_differ : (xs : List (List ℕ)) → IsDistinct bytes_eq xs → Differ xs
+pub distinct_differ : (xs : List (List ℕ)) → IsDistinct bytes_eq xs → Differ xs
 unfolding IsDistinct
 distinct_differ [] d = tt
 distinct_differ (x ∷ xs) d = (all_weak (λ y. bytes_eq x y ≡ false) (λ y. x ≢ y) xs (match_apart x) d.0, distinct_differ xs d.1)
 
 -- what holds of the wires of these names
-abbrev HoldsOf : (ℕ → Type 0) → List (List ℕ) → List (List ℕ) → Type 0
+abbrev pub HoldsOf : (ℕ → Type 0) → List (List ℕ) → List (List ℕ) → Type 0
 HoldsOf P names known = (x : List ℕ) → is_seen known x ≡ true → P (wire_of names x)
 
 holds_more : (P : ℕ → Type 0) (names known : List (List ℕ)) (name : List ℕ) → P (wire_of names name) → HoldsOf P names known → HoldsOf P names (name ∷ known)
@@ -40,7 +40,7 @@ holds_more P names known name one each x seen =
       | false ↦ λ unlike h. each x h
     ] refl seen
 
-holds_all : (P : ℕ → Type 0) (names known : List (List ℕ)) → AllByRecursion P (map (wire_of names) known) → HoldsOf P names known
+pub holds_all : (P : ℕ → Type 0) (names known : List (List ℕ)) → AllByRecursion P (map (wire_of names) known) → HoldsOf P names known
 holds_all P names [] all x seen = absurd (false≢true seen)
 holds_all P names (name ∷ known) all x seen = holds_more P names known name all.0 (holds_all P names known all.1) x seen
 
@@ -67,7 +67,7 @@ operands_hold P given names known gnd vdd each (x ∷ xs) all = (use_holds P giv
 wider : (K : ℕ → Type 0) (t : ℕ) (vs : List ℕ) → AllByRecursion K vs → AllByRecursion (λ v. (v ≡ t) ⊎ K v) vs
 wider K t vs all = all_weak K (λ v. (v ≡ t) ⊎ K v) vs (λ v k. inr k) all
 
-behind : (K : ℕ → Type 0) (names known : List (List ℕ)) (target : List ℕ) → HoldsOf K names known → HoldsOf (λ v. (v ≡ wire_of names target) ⊎ K v) names (target ∷ known)
+pub behind : (K : ℕ → Type 0) (names known : List (List ℕ)) (target : List ℕ) → HoldsOf K names known → HoldsOf (λ v. (v ≡ wire_of names target) ⊎ K v) names (target ∷ known)
 behind K names known target each = holds_more (λ v. (v ≡ wire_of names target) ⊎ K v) names known target (inl refl) (λ x seen. inr (each x seen))
 
 wires_ahead : (given : List StatementValue) (names : List (List ℕ)) → drives given (codes "gnd") ≡ false → drives given (codes "vdd") ≡ false → (ss : List StatementValue) (known : List (List ℕ)) (K : ℕ → Type 0) → AllByRecursion K (input_wires (inputs_by names ss)) → HoldsOf K names known → IsOrderedBehind known ss → IsAhead K (equations_by (driven_by given) names ss)

@@ -117,7 +117,7 @@ none_repeats (x ∷ xs) differ (suc i) (suc j) below within = none_repeats xs di
 pub once_differ : (xs : List ℕ) → Differ xs → ¬ (Repeats xs)
 once_differ xs differ (i, j, below, within, same) = none_repeats xs differ i j below within same
 
-above_zero : (names xs : List (List ℕ)) → AllByRecursion (λ w. 0 ≢ w) (map (wire_of names) xs)
+pub above_zero : (names xs : List (List ℕ)) → AllByRecursion (λ w. 0 ≢ w) (map (wire_of names) xs)
 above_zero names [] = tt
 above_zero names (x ∷ xs) = ((λ e. omega arith), above_zero names xs)
 

@@ -111,7 +111,7 @@ words_before word text is = ap (filter (λ w. nat_lt 0 (length w))) (parts_at is
 pub some_bytes : (b : ℕ) (bs : List ℕ) → nat_lt 0 (length (b ∷ bs)) ≡ true
 some_bytes b bs = grind (arith, nat_tests)
 
-not_none : (n : ℕ) → eqb (suc n) 0 ≡ false
+pub not_none : (n : ℕ) → eqb (suc n) 0 ≡ false
 not_none n = grind (arith, nat_tests)
 
 -- a text that begins with no blank has words

@@ -16,21 +16,22 @@ use Rattle.lnet_benchtext.proofs.Cutting.{true_both, some_bytes}
 glyph_name : (d : ℕ) → d < 10 → is_name_byte (digit_glyph false d) ≡ true
 glyph_name d low = grind (arith, nat_tests)
 
-onto_names : (k n : ℕ) (bs : List ℕ) → list_all is_name_byte bs ≡ true → list_all is_name_byte (digits_onto k 10 false n bs) ≡ true
-onto_names zero n bs all = all
-onto_names (suc k) n bs all =
-    let one = true_both (is_name_byte (digit_glyph false (n % 10))) (list_all is_name_byte bs) (glyph_name (n % 10) (omega arith)) all in
-    elim (eqb (n / 10) 0) as (λ b. list_all is_name_byte (cond b (digit_glyph false (n % 10) ∷ bs) (digits_onto k 10 false (n / 10) (digit_glyph false (n % 10) ∷ bs))) ≡ true) [
+onto_all : (p : ℕ → Bool) → ((d : ℕ) → d < 10 → p (digit_glyph false d) ≡ true) → (k n : ℕ) (bs : List ℕ) → list_all p bs ≡ true → list_all p (digits_onto k 10 false n bs) ≡ true
+onto_all p each zero n bs all = all
+onto_all p each (suc k) n bs all =
+    let one = true_both (p (digit_glyph false (n % 10))) (list_all p bs) (each (n % 10) (omega arith)) all in
+    elim (eqb (n / 10) 0) as (λ b. list_all p (cond b (digit_glyph false (n % 10) ∷ bs) (digits_onto k 10 false (n / 10) (digit_glyph false (n % 10) ∷ bs))) ≡ true) [
       | true ↦ one
-      | false ↦ onto_names k (n / 10) (digit_glyph false (n % 10) ∷ bs) one
+      | false ↦ onto_all p each k (n / 10) (digit_glyph false (n % 10) ∷ bs) one
     ]
 
-decimal_names : (n : ℕ) → list_all is_name_byte (decimal n) ≡ true
+-- a test that each digit passes
+pub decimal-all : (p : ℕ → Bool) → ((d : ℕ) → d < 10 → p (digit_glyph false d) ≡ true) → (n : ℕ) → list_all p (decimal n) ≡ true
 unfolding digits
-decimal_names n = onto_names 64 n [] refl
+decimal-all p each n = onto_all p each 64 n [] refl
 
 pub made_name-is : (letter n : ℕ) → is_name_byte letter ≡ true → is_name (made_name letter n) ≡ true
-made_name-is letter n is = true_both (nat_lt 0 (length (made_name letter n))) (list_all is_name_byte (made_name letter n)) (some_bytes 95 (letter ∷ decimal n)) (true_both (is_name_byte letter) (list_all is_name_byte (decimal n)) is (decimal_names n))
+made_name-is letter n is = true_both (nat_lt 0 (length (made_name letter n))) (list_all is_name_byte (made_name letter n)) (some_bytes 95 (letter ∷ decimal n)) (true_both (is_name_byte letter) (list_all is_name_byte (decimal n)) is (decimal-all is_name_byte glyph_name n))
 
 -- ---- hexadecimal digits
 

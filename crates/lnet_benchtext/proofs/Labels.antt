@@ -23,13 +23,17 @@ use Rattle.lnet_benchtext.proofs.Decimals.{made_name-is}
 name_byte : (b : ℕ) → is_text_byte b ≡ true → is_name_byte b ≡ true
 name_byte b e = grind (arith, nat_tests)
 
-plain_name : (name : List ℕ) → IsName name → is_plain name ≡ true → is_name name ≡ true
-plain_name name is plain =
+pub plain_bytes : (name : List ℕ) → is_plain name ≡ true → list_all is_text_byte name ≡ true
+plain_bytes name plain =
     let first = both_true (list_all is_text_byte name && not (slice_index name 0 == 46) && not (is_constant name)) (not (is_made name)) plain in
     let second = both_true (list_all is_text_byte name && not (slice_index name 0 == 46)) (not (is_constant name)) first.0 in
-    let third = both_true (list_all is_text_byte name) (not (slice_index name 0 == 46)) second.0 in
-    let some : nat_lt 0 (length name) ≡ true = let h = is.some in grind (arith, nat_tests) in
-    true_both (nat_lt 0 (length name)) (list_all is_name_byte name) some (all_weaker is_text_byte is_name_byte name name_byte third.0)
+    (both_true (list_all is_text_byte name) (not (slice_index name 0 == 46)) second.0).0
+
+pub some_of : (name : List ℕ) → IsName name → nat_lt 0 (length name) ≡ true
+some_of name is = let h = is.some in grind (arith, nat_tests)
+
+plain_name : (name : List ℕ) → IsName name → is_plain name ≡ true → is_name name ≡ true
+plain_name name is plain = true_both (nat_lt 0 (length name)) (list_all is_name_byte name) (some_of name is) (all_weaker is_text_byte is_name_byte name name_byte (plain_bytes name plain))
 
 -- a test that made names and kept names pass
 pub record Suits (letter : ℕ) (p : List ℕ → Bool) : Type 0 where
@@ -79,17 +83,21 @@ output_labels-names c has = output_labels-suit is_name c (record { made = λ n. 
 abbrev pub NamesNodes : (ℕ → Option (List ℕ)) → Type 0
 NamesNodes label = (n : ℕ) → is_name (node_name label n) ≡ true
 
-got_name : (names : List (List ℕ)) (k : ℕ) (other : List ℕ) → list_all is_name names ≡ true → is_name other ≡ true → is_name (unwrap_or (slice_get names k) other) ≡ true
-got_name [] k other all is = is
-got_name (x ∷ xs) zero other all is = (both_true (is_name x) (list_all is_name xs) all).0
-got_name (x ∷ xs) (suc k) other all is = got_name xs k other (both_true (is_name x) (list_all is_name xs) all).1 is
+got_name : (p : List ℕ → Bool) (names : List (List ℕ)) (k : ℕ) (other : List ℕ) → list_all p names ≡ true → p other ≡ true → p (unwrap_or (slice_get names k) other) ≡ true
+got_name p [] k other all is = is
+got_name p (x ∷ xs) zero other all is = (both_true (p x) (list_all p xs) all).0
+got_name p (x ∷ xs) (suc k) other all is = got_name p xs k other (both_true (p x) (list_all p xs) all).1 is
 
-named_at : (names : List (List ℕ)) (place : Option ℕ) (other : List ℕ) → list_all is_name names ≡ true → is_name other ≡ true → is_name (unwrap_or (name_at names place) other) ≡ true
-named_at names None other all is = is
-named_at names (Some k) other all is = got_name names k other all is
+named_at : (p : List ℕ → Bool) (names : List (List ℕ)) (place : Option ℕ) (other : List ℕ) → list_all p names ≡ true → p other ≡ true → p (unwrap_or (name_at names place) other) ≡ true
+named_at p names None other all is = is
+named_at p names (Some k) other all is = got_name p names k other all is
+
+-- a test that the inputs' names and the made ones pass
+pub label_of-suit : (p : List ℕ → Bool) (c : CircuitValue) → Suits 105 p → ((n : ℕ) → p (made_name 110 n) ≡ true) → HasNames c → (n : ℕ) → p (node_name (label_of c) n) ≡ true
+label_of-suit p c suits made has n = named_at p (input_labels c.inputs) (input_place 0 n c.inputs) (made_name 110 n) (input_labels-suit p c suits has) (made n)
 
 pub label_of-names : (c : CircuitValue) → HasNames c → NamesNodes (label_of c)
-label_of-names c has = λ n. named_at (input_labels c.inputs) (input_place 0 n c.inputs) (made_name 110 n) (input_labels-names c has) (made_name-is 110 n refl)
+label_of-names c has = label_of-suit is_name c (record { made = λ n. made_name-is 105 n refl; kept = plain_name }) (λ n. made_name-is 110 n refl) has
 
 constant_name-is : (value : Bool) → is_name (constant_name value) ≡ true
 constant_name-is true = refl

@@ -27,7 +27,7 @@ pub record Says (line : List ℕ) (s : StatementValue) : Type 0 where
 no_newline : (b : ℕ) → is_line_byte b ≡ true → not (is_newline b) ≡ true
 no_newline b e = grind (arith, nat_tests)
 
-no_comment : (b : ℕ) → is_line_byte b ≡ true → not (is_byte 35 b) ≡ true
+pub no_comment : (b : ℕ) → is_line_byte b ≡ true → not (is_byte 35 b) ≡ true
 no_comment b e = grind (arith, nat_tests)
 
 no_return_byte : (b : ℕ) → is_line_byte b ≡ true → eqb b 13 ≡ false
@@ -45,7 +45,8 @@ behind : (piece : List ℕ) (pieces : List (List ℕ)) → 0 < length pieces →
 behind piece [] some = absurd (omega arith)
 behind piece (next ∷ pieces) some = refl
 
-lines_of-line : (line rest : List ℕ) → list_all is_line_byte line ≡ true → lines_of (line ++ 10 ∷ rest) ≡ line ∷ lines_of rest
+-- the first line of a text
+pub lines_of-line : (line rest : List ℕ) → list_all is_line_byte line ≡ true → lines_of (line ++ 10 ∷ rest) ≡ line ∷ lines_of rest
 lines_of-line line rest all =
     ap lines_of_pieces (parts_at is_newline line 10 rest (all_weaker is_line_byte (λ b. not (is_newline b)) line no_newline all) refl)
     ∙ behind line (slice_split is_newline rest) (omega (arith, length-slice_split is_newline rest))

@@ -1,0 +1,13 @@
+pub mod Shape
+pub mod Seen
+pub mod Once
+pub mod Rules
+pub mod Ordered
+pub mod Means
+pub mod CoverRows
+pub mod NameValues
+pub mod GateValues
+pub mod OutputValues
+pub mod Reading
+pub mod Lengths
+pub mod Written

@@ -10,5 +10,4 @@ pub mod WordOutputs
 pub mod TextValues
 pub mod Counts
 pub mod TextMeans
-pub mod Taken
-pub mod Kept
+pub mod Written

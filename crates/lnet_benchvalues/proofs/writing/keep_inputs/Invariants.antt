@@ -1,7 +1,0 @@
-use Rattle.std.proofs.Common.{take}
-use Rattle.std.specs.List.{AllByRecursion}
-use Rattle.lnet_benchvalues.specs.Keeping.{IsKeptInput}
-use Rattle.lnet_benchvalues.proofs.writing.keep_inputs.Given as goal
-
-abbrev pub invariant-loop-port : goal.invariant-loop-port
-invariant-loop-port l = AllByRecursion IsKeptInput (take l.port-index l.ports)

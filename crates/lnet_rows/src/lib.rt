@@ -11,3 +11,5 @@ mod forms;
 mod runs;
 #[cfg(test)]
 mod steps;
+#[cfg(test)]
+mod written;

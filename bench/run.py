@@ -3,11 +3,13 @@
 
     bench/run.py [RUNS]     RUNS of each command, 7 where it is left out
 
-The two sizes are made here, always the same: 64 inputs, 32 outputs, and 600 or 6,000 And gates, each of two signals
-before it. What is timed is the built program without its launcher: the processor time of the user and the system
-together, the median of the runs, whose order goes round the commands so that a busy moment meets them all. The start of
-the program is the time of a file without inputs and gates, and is taken off before the second ratio is made. That ratio
-is near 10 where the time goes up with the size alone, and near 100 where it goes up with its square.
+The two sizes are made here, always the same: 64 inputs, 32 outputs, and 10,000 or 100,000 And gates, each of two signals
+before it, in ASCII AIGER; a first run of the program makes the same files in binary AIGER, BLIF and BENCH. What is timed
+is the built program without its launcher: the processor time of the user and the system together, the median of the
+runs, whose order goes round the commands so that a busy moment meets them all. The start of the program is the time of a
+file without inputs and gates, and is taken off before the second ratio is made. That ratio is near 10 where the time goes
+up with the size alone, and near 100 where it goes up with its square. Where berkeley-abc is installed, it reads, hashes
+and writes the same files.
 """
 import os
 import shutil
@@ -19,7 +21,15 @@ import tempfile
 TOP = os.path.dirname(os.path.dirname(os.path.abspath(__file__)))
 PROGRAM = os.path.join(TOP, "crates", "lognet", "out", "lognet")
 INPUTS, OUTPUTS = 64, 32
-SIZES = [600, 6_000]
+SIZES = [10_000, 100_000]
+ABC = shutil.which("berkeley-abc")
+# What is timed: a name, the word behind `read`, the word behind `write` and the file's ending, and ABC's words.
+FORMATS = [
+    ("ASCII AIGER", "aiger", "aag", None, None),
+    ("binary AIGER", "aiger", "aig", "read_aiger", "write_aiger"),
+    ("BLIF", "blif", "blif", "read_blif", "write_blif"),
+    ("BENCH", "bench", "bench", "read_bench", "write_bench"),
+]
 EXAMPLES = ["one", "adder", "c17", "add64"]
 
 
@@ -44,22 +54,22 @@ def circuit(gates):
     return "\n".join(lines) + "\n"
 
 
-def seconds(script, folder):
-    """The processor time of one run of the script, which must end with status 0."""
-    child = subprocess.Popen([PROGRAM, script], cwd=folder, stdout=subprocess.DEVNULL)
+def seconds(command, folder):
+    """The processor time of one run of the command, which must end with status 0."""
+    child = subprocess.Popen(command, cwd=folder, stdout=subprocess.DEVNULL)
     _, status, usage = os.wait4(child.pid, 0)
     child.returncode = os.waitstatus_to_exitcode(status)
     if child.returncode:
-        sys.exit(f"status {child.returncode}: {script}")
+        sys.exit(f"status {child.returncode}: {command}")
     return usage.ru_utime + usage.ru_stime
 
 
-def medians(scripts, folder, runs):
-    """The median time of each script, in milliseconds."""
-    times = {name: [] for name in scripts}
+def medians(commands, folder, runs):
+    """The median time of each command, in milliseconds."""
+    times = {name: [] for name in commands}
     for _ in range(runs):
-        for name, script in scripts.items():
-            times[name].append(seconds(script, folder))
+        for name, command in commands.items():
+            times[name].append(seconds(command, folder))
     return {name: 1000 * statistics.median(taken) for name, taken in times.items()}
 
 
@@ -71,33 +81,46 @@ def written(name, lines):
         file.write(text)
 
 
+def commands_of(gates):
+    """The commands that are timed for a size."""
+    commands = {("read ASCII AIGER", gates): [PROGRAM, f"read aiger {gates}.aag aig"]}
+    for name, reader, writer, abc_reads, abc_writes in FORMATS:
+        file, out = f"{gates}.{writer}", f"{gates}.out.{writer}"
+        commands[(name, gates)] = [PROGRAM, f"read {reader} {file} aig; write {writer} {out}"]
+        if ABC and abc_reads:
+            script = f"{abc_reads} {file}; strash; {abc_writes} {out}"
+            commands[(f"{name}, ABC", gates)] = [ABC, "-q", script]
+    return commands
+
+
 def sizes(folder, runs):
-    """Both sizes, read alone and read and written."""
-    scripts = {"start": "read aiger start.aag aig"}
+    """Both sizes, read alone, and read and written in each format."""
     with open(os.path.join(folder, "start.aag"), "w", encoding="ascii") as file:
         file.write("aag 0 0 0 0 0\n")
+    commands = {"start": [PROGRAM, "read aiger start.aag aig"]}
     for gates in SIZES:
         with open(os.path.join(folder, f"{gates}.aag"), "w", encoding="ascii") as file:
             file.write(circuit(gates))
-        read = f"read aiger {gates}.aag aig"
-        scripts[("read", gates)] = read
-        scripts[("read, write", gates)] = f"{read}; write aag {gates}.out"
-    taken = medians(scripts, folder, runs)
+        writes = "; ".join(f"write {writer} {gates}.{writer}" for _, _, writer, _, _ in FORMATS[1:])
+        seconds([PROGRAM, f"read aiger {gates}.aag aig; {writes}"], folder)
+        commands |= commands_of(gates)
+    taken = medians(commands, folder, runs)
     small, large = SIZES
     start = taken["start"]
     lines = [
         f"median of {runs} runs, processor time in milliseconds; the start alone {start:.2f}",
-        f"commands | {small:,} gates | {large:,} gates | ratio | ratio without the start",
+        f"what | {small:,} gates | {large:,} gates | ratio | ratio without the start",
     ]
-    for what in ("read", "read, write"):
+    for what in [key[0] for key in commands if key[1:] == (small,)]:
         a, b = taken[(what, small)], taken[(what, large)]
-        lines.append(f"{what} | {a:.2f} | {b:.2f} | {b / a:.1f} | {(b - start) / (a - start):.1f}")
+        own = 0 if what.endswith("ABC") else start
+        lines.append(f"{what} | {a:.2f} | {b:.2f} | {b / a:.1f} | {(b - own) / (a - own):.1f}")
     written("sizes.txt", lines)
 
 
 def examples(runs):
     """The circuits of examples/, read and written, as ratios to the smallest."""
-    scripts = {name: f"read aiger examples/{name}.aag aig; write aag {name}.out" for name in EXAMPLES}
+    scripts = {name: [PROGRAM, f"read aiger examples/{name}.aag aig; write aag {name}.out"] for name in EXAMPLES}
     with tempfile.TemporaryDirectory() as folder:
         shutil.copytree(os.path.join(TOP, "examples"), os.path.join(folder, "examples"))
         taken = medians(scripts, folder, runs)

@@ -3,7 +3,7 @@ use Rattle.std.proofs.Common.{List, ℕ, Result, Ok, Err}
 use Rattle.std.specs.Prelude.{IfOk}
 use Rattle.lnet_edge.specs.Circuits.{CircuitValue}
 use Rattle.lnet_aiger.specs.Written as aiger
-use Rattle.lnet_benchvalues.specs.Keeping as bench
+use Rattle.lnet_benchvalues.specs.Same as bench
 use Rattle.lnet_blifmeans.specs.Same as blif
 use Rattle.lnet_script.specs.declared.command.WriteFormat.TheVariants as writes
 use Rattle.lnet_session.specs.Formats.{IsTextOf}

@@ -314,7 +314,7 @@ fn truncated(rt: HostRuntime) -> Result<(), Fail> {
 }
 
 /// A file of six gates.
-const C17: &[u8] =
+pub(crate) const C17: &[u8] =
     b"INPUT(1)\nINPUT(2)\nINPUT(3)\nINPUT(6)\nINPUT(7)\nOUTPUT(22)\nOUTPUT(23)\n10 = NAND(1, 3)\n11 = NAND(3, 6)\n16 = NAND(2, 11)\n19 = NAND(11, 7)\n22 = NAND(10, 16)\n23 = NAND(16, 19)\n";
 
 /// Reads the first bytes of the file behind another: where they mean no circuit, the network in place stays.

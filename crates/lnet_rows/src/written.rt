@@ -1,5 +1,6 @@
-//! Networks that are written in BLIF and BENCH, and read again.
+//! Networks that are written, with the bytes of the files, and read again.
 
+use crate::contents::C17;
 use crate::runs::{compare, owned, status_of};
 use lnet_edge::{MemoryFiles, MemorySink};
 use std::test::Fail;
@@ -7,6 +8,30 @@ use std::test::Fail;
 /// The exclusive or of three, and that of two, built of gates of which one gives way to another.
 const PARITY: &[u8] =
     b"INPUT(a)\nINPUT(b)\nINPUT(c)\nOUTPUT(f)\nOUTPUT(s)\ns = XOR(a, b)\nna = NOT(a)\nnb = NOT(b)\nt = NAND(a, nb)\nu = NAND(na, b)\no = AND(t, u)\nf = XOR(o, c)\n";
+
+/// A netlist of NANDs, as an and-inverter graph in ASCII AIGER with the names of its ports.
+#[test]
+fn written_with_names(rt: HostRuntime) -> Result<(), Fail> {
+    let alloc = rt.alloc();
+    let mut files = MemoryFiles::new(alloc, Vec::new(alloc));
+    files.set("c17.bench", C17)?;
+    let script =
+        "read bench c17.bench aig; stats; view depth; ask 1 level 5; ask 1 level 6; ask 1 level 8; ask 1 level 11; write aag c17.aag";
+    let words = owned(alloc, &["lognet", script])?;
+    compare(
+        &rt,
+        alloc,
+        &words,
+        "network aig inputs 5 outputs 2 gates 6\nstats aig inputs 5 outputs 2 gates 6 depth 3\nview 1 depth\nlevel 5 0\nlevel 6 1\nlevel 8 2\nlevel 11 3\nwrote 118\n",
+        0,
+        &mut files,
+        Vec::new(alloc),
+    )?;
+    let aag =
+        "aag 11 5 0 2 6\n2\n4\n6\n8\n10\n21\n23\n12 6 2\n14 8 6\n16 15 4\n18 15 10\n20 17 13\n22 19 17\ni0 1\ni1 2\ni2 3\ni3 6\ni4 7\no0 22\no1 23\n";
+    assert_eq!(rt; files.file("c17.aag").ok_or("no file")?, aag.as_bytes());
+    Ok(())
+}
 
 /// A gate of phase true, and a gate that stands below one of a lesser number.
 #[test]

@@ -1,6 +1,6 @@
 -- A circuit whose wires are numbered from 1 without a gap, each gate after those it uses, keeps the rules of circuits.
 use Rattle.std.proofs.Common.{◌≡◌, ℕ, zero, suc, ◌+◌, ◌<◌, ◌≤◌, List, [], ◌∷◌, ◌++◌, length, flat_map, get_or, refl, sym, ap, subst, arith, length-append}
-use Rattle.lnet_edge.proofs.WireLemmas.{length-input_wires, length-targets}
+use Rattle.lnet_edge.proofs.WireLemmas.{AllFrom-get_or, length-input_wires, length-targets}
 use Rattle.lnet_edge.specs.declared.circuit.InputPort.{InputPort}
 use Rattle.lnet_edge.specs.declared.circuit.OutputPort.{OutputPort}
 use Rattle.lnet_edge.specs.Circuits.{CircuitValue, EquationValue, AllFrom, IsGateAt}
@@ -20,13 +20,6 @@ pub record IsNumbered (c : CircuitValue) : Type 0 where
   pub outputs : AllFrom (ShowsUpTo (length c.inputs + length c.equations)) 0 c.outputs
   pub few : length c.inputs + length c.equations ≤ 1048576
   pub few_outputs : length c.outputs ≤ 100000000
-
-AllFrom-get_or : {A : Type 0} (P : ℕ → A → Type 0) (i : ℕ) (xs : List A) (k : ℕ) (d : A) → AllFrom P i xs → k < length xs → P (i + k) (get_or xs k d)
-AllFrom-get_or P i [] k d all h = absurd (omega arith)
-AllFrom-get_or P i (x ∷ xs) zero d all h = let e : i ≡ i + 0 = omega arith in subst (λ (n : ℕ). P n x) e all.0
-AllFrom-get_or P i (x ∷ xs) (suc k) d all h =
-    let e : (i + 1) + k ≡ i + suc k = omega arith in
-    subst (λ (n : ℕ). P n (get_or xs k d)) e (AllFrom-get_or P (i + 1) xs k d all.1 (omega arith))
 
 -- the numbers count up from i
 abbrev CountsFrom : ℕ → List ℕ → Type 0

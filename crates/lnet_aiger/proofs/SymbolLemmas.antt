@@ -12,8 +12,8 @@ use Rattle.lnet_lines.specs.Lines.{lines_of, after_line, is_newline}
 use Rattle.lnet_lines.specs.Numbers.{number_of}
 use Rattle.lnet_aiger.specs.declared.symbol.Side.{Side}
 use Rattle.lnet_aiger.specs.Header.{is_space}
-use Rattle.lnet_aiger.specs.declared.fault.ReadError.{ReadError}
-use Rattle.lnet_aiger.specs.declared.fault.ReadError.TheVariants as errors
+use Rattle.lnet_edge.specs.declared.fault.ReadError.{ReadError}
+use Rattle.lnet_edge.specs.declared.fault.ReadError.TheVariants as errors
 use Rattle.lnet_aiger.specs.Chain.{◌>>=◌, at_line, Fails}
 use Rattle.lnet_aiger.specs.Symbols.{Ports, is_printable, is_name, side_of, symbol_by, symbol_line, begins_comment, naming_line}
 use Rattle.lnet_aiger.specs.Reading.{symbols_at}

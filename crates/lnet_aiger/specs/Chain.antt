@@ -3,8 +3,8 @@ use Rattle.std.specs.Prelude.{◌≡◌, ℕ, Result, Ok, Err}
 use Rattle.lnet_edge.specs.declared.fault.Fault.{Fault}
 use Rattle.lnet_edge.specs.declared.fault.Malformed.{Malformed}
 use Rattle.lnet_lines.specs.Lines.{Place}
-use Rattle.lnet_aiger.specs.declared.fault.ReadError.{ReadError}
-use Rattle.lnet_aiger.specs.declared.fault.ReadError.TheVariants as errors
+use Rattle.lnet_edge.specs.declared.fault.ReadError.{ReadError}
+use Rattle.lnet_edge.specs.declared.fault.ReadError.TheVariants as errors
 
 -- go on with what was read, unless it was refused
 infixl 10 ◌>>=◌

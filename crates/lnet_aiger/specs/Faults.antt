@@ -8,8 +8,8 @@ use Rattle.lnet_edge.specs.declared.circuit.OutputPort.{OutputPort}
 use Rattle.lnet_edge.specs.Circuits.{CircuitValue, EquationValue}
 use Rattle.lnet_edge.specs.Wires.{IsBroken}
 use Rattle.lnet_lines.specs.Lines.{lines_of, first_line, after_line}
-use Rattle.lnet_aiger.specs.declared.fault.ReadError.{ReadError}
-use Rattle.lnet_aiger.specs.declared.fault.ReadError.TheVariants as errors
+use Rattle.lnet_edge.specs.declared.fault.ReadError.{ReadError}
+use Rattle.lnet_edge.specs.declared.fault.ReadError.TheVariants as errors
 use Rattle.lnet_aiger.specs.declared.header.Form.{Form}
 use Rattle.lnet_aiger.specs.declared.header.Form.TheVariants.{Ascii, Binary}
 use Rattle.lnet_aiger.specs.declared.header.Header.{Header}

@@ -6,8 +6,8 @@ ghost use Rattle.lnet_aiger.specs.Chain.{GivesAt};
 ghost use Rattle.lnet_aiger.specs.Deltas.{groups_at, delta_at, gate_at, difference_at};
 
 use crate::body::{Gate, equation};
-use crate::fault::{ReadError, malformed};
-use lnet_edge::{Equation, Fault};
+use crate::fault::malformed;
+use lnet_edge::{Equation, Fault, ReadError};
 use lnet_lines::Lines;
 use std::alloc::Global;
 

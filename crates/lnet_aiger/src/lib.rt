@@ -13,7 +13,6 @@ mod reading;
 mod symbol;
 mod writing;
 
-pub use fault::ReadError;
 pub use laws::{one_meaning, texts_keep_outputs};
 pub use reading::read;
 pub use writing::{write_ascii, write_binary};

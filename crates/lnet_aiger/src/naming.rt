@@ -8,9 +8,9 @@ ghost use Rattle.lnet_aiger.specs.Symbols.{is_name, name_input, name_output, nam
 ghost use Rattle.lnet_aiger.specs.Reading.{symbols_at};
 ghost use Rattle.lnet_aiger.specs.Views.{symbol_view, ports_view};
 
-use crate::fault::{ReadError, malformed};
+use crate::fault::malformed;
 use crate::symbol::{Side, Symbol, begins_comment, symbol_in};
-use lnet_edge::{Fault, InputPort, Name, OutputPort};
+use lnet_edge::{Fault, InputPort, Name, OutputPort, ReadError};
 use lnet_lines::Lines;
 use std::alloc::{AllocError, Global};
 

@@ -14,11 +14,11 @@ ghost use Rattle.lnet_edge.specs.Outside.{file_limit};
 
 use crate::body::{equation, gate_in, input, output};
 use crate::delta::read_difference;
-use crate::fault::{ReadError, malformed};
+use crate::fault::malformed;
 use crate::header::{Form, Header, header_in};
 use crate::naming::{PortLists, read_symbols};
 use crate::parts::Parts;
-use lnet_edge::{Circuit, CircuitError, Equation, Fault, InputPort, OutputPort, Wire};
+use lnet_edge::{Circuit, CircuitError, Equation, Fault, InputPort, OutputPort, ReadError, Wire};
 use lnet_lines::Lines;
 use std::alloc::{AllocError, Global};
 

@@ -1,7 +1,7 @@
 //! Contents and what they give.
 
 use super::*;
-use lnet_edge::{Fault, Malformed};
+use lnet_edge::{Fault, Malformed, ReadError};
 use std::test::Fail;
 
 /// A content that is refused, and the rule that it breaks.

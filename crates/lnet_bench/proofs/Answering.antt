@@ -9,8 +9,8 @@ use Rattle.lnet_edge.specs.Circuits.{CircuitValue}
 use Rattle.lnet_edge.specs.CircuitLists.{equation_view}
 use Rattle.lnet_edge.specs.Wires.{HasArities, IsCircuit, IsBroken}
 use Rattle.lnet_lines.specs.Lines.{lines_of}
-use Rattle.lnet_bench.specs.declared.fault.ReadError.{ReadError}
-use Rattle.lnet_bench.specs.declared.fault.ReadError.TheVariants as errors
+use Rattle.lnet_edge.specs.declared.fault.ReadError.{ReadError}
+use Rattle.lnet_edge.specs.declared.fault.ReadError.TheVariants as errors
 use Rattle.lnet_bench.specs.declared.listing.Lists.{Lists}
 use Rattle.lnet_bench.specs.declared.wiring.Driven.{Driven}
 use Rattle.lnet_bench.specs.Statements.{StatementValue}

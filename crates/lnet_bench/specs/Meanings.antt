@@ -3,8 +3,8 @@ use Rattle.std.specs.Prelude.{◌≡◌, ◌⊎◌, ℕ, List, Result, Ok, Err}
 use Rattle.lnet_edge.specs.declared.fault.Malformed.{Malformed}
 use Rattle.lnet_edge.specs.Circuits.{CircuitValue}
 use Rattle.lnet_edge.specs.Wires.{IsCircuit, IsBroken}
-use Rattle.lnet_bench.specs.declared.fault.ReadError.{ReadError}
-use Rattle.lnet_bench.specs.declared.fault.ReadError.TheVariants as errors
+use Rattle.lnet_edge.specs.declared.fault.ReadError.{ReadError}
+use Rattle.lnet_edge.specs.declared.fault.ReadError.TheVariants as errors
 use Rattle.lnet_bench.specs.Statements.{StatementValue}
 use Rattle.lnet_bench.specs.Texts.{statements_of, circuit_of}
 

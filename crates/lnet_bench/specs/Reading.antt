@@ -2,8 +2,8 @@
 use Rattle.std.specs.Prelude.{◌≡◌, ℕ, ◌+◌, List, [], ◌∷◌, Result, Ok, Err, if◌then◌else◌}
 use Rattle.lnet_edge.specs.declared.fault.Fault.{Fault}
 use Rattle.lnet_edge.specs.declared.fault.Malformed.{Malformed}
-use Rattle.lnet_bench.specs.declared.fault.ReadError.{ReadError}
-use Rattle.lnet_bench.specs.declared.fault.ReadError.TheVariants as errors
+use Rattle.lnet_edge.specs.declared.fault.ReadError.{ReadError}
+use Rattle.lnet_edge.specs.declared.fault.ReadError.TheVariants as errors
 use Rattle.lnet_bench.specs.declared.wiring.Driven.{Driven}
 use Rattle.lnet_bench.specs.Statements.{StatementValue, statement_of}
 use Rattle.lnet_bench.specs.Listing.{Listed, add}

@@ -1,7 +1,6 @@
 //! Circuits read from the BENCH format.
 #![tactic(auto)]
 
-mod fault;
 mod gates;
 mod laws;
 mod listing;
@@ -12,6 +11,5 @@ mod tests;
 mod texts;
 mod wiring;
 
-pub use fault::ReadError;
 pub use laws::{lines_of_each_form, lines_of_no_form};
 pub use reading::read;

@@ -10,12 +10,11 @@ ghost use Rattle.lnet_bench.specs.Listing.{nothing, circuit_in, lists_view};
 ghost use Rattle.lnet_bench.specs.Meanings.{Means, Refuses, Answers, RefusesCircuit};
 ghost use Rattle.lnet_bench.specs.Reading.{line_after, lines_after, Adds, Gives};
 
-use crate::fault::ReadError;
 use crate::listing::{Lists, no_lists};
 use crate::statements::statement_in;
 use crate::texts::{driven_in, uncommented};
 use crate::wiring::Driven;
-use lnet_edge::{Circuit, CircuitError, Malformed};
+use lnet_edge::{Circuit, CircuitError, Malformed, ReadError};
 use lnet_lines::Lines;
 use lnet_words::next_word;
 use std::alloc::Global;

@@ -1,5 +1,5 @@
 use super::*;
-use lnet_edge::{Equation, Fault, Malformed, Rule};
+use lnet_edge::{Equation, Fault, Malformed, ReadError, Rule};
 use std::alloc::{AllocError, Global};
 use std::test::Fail;
 

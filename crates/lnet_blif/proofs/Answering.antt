@@ -7,8 +7,8 @@ use Rattle.lnet_edge.specs.declared.fault.Fault.TheVariants as faults
 use Rattle.lnet_edge.specs.Circuits.{CircuitValue}
 use Rattle.lnet_edge.specs.Wires.{HasArities, IsCircuit, IsBroken}
 use Rattle.lnet_bliflines.specs.Words.{LineWords, words_in}
-use Rattle.lnet_bliflines.specs.declared.fault.ReadError.{ReadError}
-use Rattle.lnet_bliflines.specs.declared.fault.ReadError.TheVariants as errors
+use Rattle.lnet_edge.specs.declared.fault.ReadError.{ReadError}
+use Rattle.lnet_edge.specs.declared.fault.ReadError.TheVariants as errors
 use Rattle.lnet_blif.specs.Statements.{StatementValue}
 use Rattle.lnet_blif.specs.Listing.{Listed, State, closed, add_all, circuit_in}
 use Rattle.lnet_blif.specs.Texts.{statements_of, circuit_of}

@@ -2,8 +2,8 @@
 use Rattle.std.specs.Prelude.{◌≡◌, ℕ, ◌==◌, List, [], ◌∷◌, length, Result, Ok, Err, if◌then◌else◌}
 use Rattle.lnet_edge.specs.declared.fault.Fault.{Fault}
 use Rattle.lnet_edge.specs.declared.fault.Malformed.{Malformed}
-use Rattle.lnet_bliflines.specs.declared.fault.ReadError.{ReadError}
-use Rattle.lnet_bliflines.specs.declared.fault.ReadError.TheVariants as errors
+use Rattle.lnet_edge.specs.declared.fault.ReadError.{ReadError}
+use Rattle.lnet_edge.specs.declared.fault.ReadError.TheVariants as errors
 use Rattle.lnet_bliflines.specs.Words.{fault_on, LineWords}
 use Rattle.lnet_blif.specs.Statements.{StatementValue, statement_at}
 use Rattle.lnet_blif.specs.Listing.{Listed, State, AtFirst, nothing, closed, position_of, at, add}

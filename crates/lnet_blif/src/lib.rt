@@ -10,5 +10,4 @@ mod tables;
 mod tests;
 
 pub use laws::{lines_of_each_form, lines_of_no_form};
-pub use lnet_bliflines::ReadError;
 pub use reading::read;

@@ -14,8 +14,8 @@ ghost use Rattle.lnet_blif.specs.Reading.{start, line_after, lines_after, finish
 use crate::listing::{Lists, no_lists};
 use crate::statements::statement_at;
 use crate::tables::Place;
-use lnet_bliflines::{ReadError, TextLine, next_line};
-use lnet_edge::{Circuit, CircuitError, Malformed};
+use lnet_bliflines::{TextLine, next_line};
+use lnet_edge::{Circuit, CircuitError, Malformed, ReadError};
 use lnet_lines::Lines;
 use std::alloc::Global;
 

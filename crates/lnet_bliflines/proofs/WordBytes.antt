@@ -6,7 +6,7 @@ use Rattle.std.proofs.lemmas.Bool.Decides.{nat_tests}
 use Rattle.lnet_edge.specs.declared.fault.Malformed.{Malformed}
 use Rattle.lnet_edge.specs.declared.fault.Fault.TheVariants as faults
 use Rattle.lnet_words.specs.Cutting.{is_blank, words_of}
-use Rattle.lnet_bliflines.specs.declared.fault.ReadError.{ReadError}
+use Rattle.lnet_edge.specs.declared.fault.ReadError.{ReadError}
 use Rattle.lnet_bliflines.specs.declared.joining.TextLine.{TextLine}
 use Rattle.lnet_bliflines.specs.Joining.{Joined, joined_from}
 use Rattle.lnet_bliflines.specs.Words.{is_text_byte, is_word_byte, is_word, fault_on, LineWords, words_unless, words_on, words_from, line_view, are_words, TakesLine}

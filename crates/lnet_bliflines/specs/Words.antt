@@ -7,8 +7,8 @@ use Rattle.lnet_edge.specs.declared.fault.Fault.TheVariants as faults
 use Rattle.lnet_edge.specs.declared.fault.Malformed.{Malformed}
 use Rattle.lnet_lines.specs.Lines.{Place, lines_of}
 use Rattle.lnet_words.specs.Cutting.{words_of}
-use Rattle.lnet_bliflines.specs.declared.fault.ReadError.{ReadError}
-use Rattle.lnet_bliflines.specs.declared.fault.ReadError.TheVariants as errors
+use Rattle.lnet_edge.specs.declared.fault.ReadError.{ReadError}
+use Rattle.lnet_edge.specs.declared.fault.ReadError.TheVariants as errors
 use Rattle.lnet_bliflines.specs.declared.joining.TextLine.{TextLine}
 use Rattle.lnet_bliflines.specs.Joining.{goes_on, shortened, Joined, joined_from}
 

@@ -6,8 +6,7 @@ ghost use Rattle.lnet_words.specs.Cutting.{words_of};
 ghost use Rattle.lnet_bliflines.specs.Joining.{uncommented, goes_on, shortened};
 ghost use Rattle.lnet_bliflines.specs.Words.{is_text_byte, words_at, word_lists, piece_text, ReadsPiece, are_words, word_count, TakesLine};
 
-use crate::fault::ReadError;
-use lnet_edge::{Fault, Malformed};
+use lnet_edge::{Fault, Malformed, ReadError};
 use lnet_lines::Lines;
 use lnet_words::{cut, next_word};
 use std::alloc::{AllocError, Global};

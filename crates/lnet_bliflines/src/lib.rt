@@ -1,10 +1,8 @@
 //! The lines of the Berkeley Logic Interchange Format, joined and cut into words.
 #![tactic(auto)]
 
-mod fault;
 mod joining;
 #[cfg(test)]
 mod tests;
 
-pub use fault::ReadError;
 pub use joining::{TextLine, next_line};

@@ -1,5 +1,5 @@
 use super::*;
-use lnet_edge::{Fault, Malformed};
+use lnet_edge::{Fault, Malformed, ReadError};
 use lnet_lines::Lines;
 use std::test::Fail;
 

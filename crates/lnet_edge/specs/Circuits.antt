@@ -1,5 +1,5 @@
 -- Circuits as contracts see them: inputs, equations and outputs, by wires.
-use Rattle.std.specs.Prelude.{◌≡◌, ℕ, ◌+◌, ◌<◌, ◌≤◌, false, List, [], ◌∷◌, length, None}
+use Rattle.std.specs.Prelude.{◌≡◌, ℕ, ◌+◌, ◌<◌, false, List, [], ◌∷◌}
 use Rattle.lnet_edge.specs.declared.circuit.Rule.{Rule}
 use Rattle.lnet_edge.specs.declared.circuit.Rule.TheVariants.{And}
 use Rattle.lnet_edge.specs.declared.circuit.WireRef.{WireRef}
@@ -23,22 +23,6 @@ abbrev pub AllFrom : {A : Type 0} → (ℕ → A → Type 0) → ℕ → List A 
 AllFrom P i [] = Unit {0}
 AllFrom P i (x ∷ xs) = P i x × AllFrom P (i + 1) xs
 
--- the input drives this wire, and has no name
-abbrev pub IsInputAt : ℕ → InputPort → Type 0
-IsInputAt i p = (p.wire.0 ≡ i) × (p.name ≡ None)
-
 -- an And of two operands, each a wire below the target
 abbrev pub IsGateAt : ℕ → EquationValue → Type 0
 IsGateAt target e = (a : WireRef) × (b : WireRef) × (e ≡ record { target = target; rule = And false; operands = a ∷ b ∷ [] }) × (a.wire.0 < target) × (b.wire.0 < target)
-
--- an output of a wire up to the last, without a name
-abbrev pub IsOutputOf : ℕ → ℕ → OutputPort → Type 0
-IsOutputOf top i p = (p.source.wire.0 ≤ top) × (p.name ≡ None)
-
--- wires are numbered from 1 without a gap: the inputs first, and then each gate after those it uses; nothing has a name
-pub record IsInOrder (c : CircuitValue) : Type 0 where
-  pub inputs : AllFrom IsInputAt 1 c.inputs
-  pub gates : AllFrom IsGateAt (length c.inputs + 1) c.equations
-  pub outputs : AllFrom (IsOutputOf (length c.inputs + length c.equations)) 0 c.outputs
-  pub few : length c.inputs + length c.equations < 65536
-  pub few_outputs : length c.outputs < 65536

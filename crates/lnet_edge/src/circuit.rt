@@ -1,7 +1,6 @@
 //! Circuits as files hold them: inputs, equations and outputs, by wires.
 
 ghost use Rattle.std.specs.Prelude.{◌≡◌, ◌+◌, ◌<◌, ◌≤◌, ◌↔◌, length, IsTrue, IfOk, IfErr};
-ghost use Rattle.lnet_edge.specs.Circuits.{IsInOrder};
 ghost use Rattle.lnet_edge.specs.CircuitLists.{equation_views, listed_circuit};
 ghost use Rattle.lnet_edge.specs.Plain.{IsPlain};
 ghost use Rattle.lnet_edge.specs.Wires.{HasArities, IsCircuit, IsRefused};
@@ -167,24 +166,6 @@ impl Circuit {
             equations,
             plain,
         })
-    }
-
-    /// The circuit of these ports and equations, which are numbered in order: from 1 without a gap, first the inputs and
-    /// then each equation, an And of two operands, after those it uses; none has a name. It takes no memory.
-    pub fn in_order(
-        inputs: Vec<InputPort>,
-        outputs: Vec<OutputPort>,
-        equations: Vec<Equation>,
-    ) -> Circuit
-        requires { IsInOrder (listed_circuit inputs.items outputs.items equations.items) }
-        ensures { result ≡ listed_circuit inputs.items outputs.items equations.items }
-    {
-        Circuit {
-            inputs,
-            outputs,
-            equations,
-            plain: true,
-        }
     }
 
     /// The inputs in order.

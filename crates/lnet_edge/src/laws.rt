@@ -2,7 +2,7 @@
 
 ghost use Rattle.std.specs.Prelude.{◌≡◌, ◌<◌, ℕ, Bool, true, false, List, [], ◌∷◌, length, map, slice_index, Contains};
 ghost use Rattle.lnet_edge.specs.declared.circuit.Rule.TheVariants.{Or, Xor, Maj, Lut, Cover};
-ghost use Rattle.lnet_edge.specs.Circuits.{CircuitValue, EquationValue, IsInOrder};
+ghost use Rattle.lnet_edge.specs.Circuits.{CircuitValue, EquationValue};
 ghost use Rattle.lnet_edge.specs.Wires.{input_wires, IsCircuit};
 ghost use Rattle.lnet_edge.specs.Values.{under_rule, wire_value, value_of, ref_value};
 
@@ -27,9 +27,4 @@ pub fn rules_on_rows()
 /// A recursion to a greater depth than the count of equations gives the same value.
 pub fn depth_is_enough()
     ensures { (c : CircuitValue) (a : ℕ → Bool) (d w : ℕ) → IsCircuit c → length c.equations < d → wire_value d c a w ≡ value_of c a w }
-{}
-
-/// A circuit that is numbered in order keeps the rules of circuits.
-pub fn orders_keep_the_rules()
-    ensures { (c : CircuitValue) → IsInOrder c → IsCircuit c }
 {}

@@ -62,11 +62,11 @@ fn standard_output(rt: HostRuntime) {
 }
 
 #[test]
-fn names_and_circuits_in_order(rt: HostRuntime) -> Result<(), Fail> {
+fn names_and_circuits_without_ports(rt: HostRuntime) -> Result<(), Fail> {
     let alloc = rt.alloc();
     let name = Name::new(String::from_str(alloc, "a b")?);
     assert_eq!(rt; name.as_str(), "a b");
-    let circuit = Circuit::in_order(Vec::new(alloc), Vec::new(alloc), Vec::new(alloc));
+    let circuit = Circuit::new(alloc, Vec::new(alloc), Vec::new(alloc), Vec::new(alloc))?;
     assert_eq!(rt; circuit.inputs().len(), 0);
     assert_eq!(rt; circuit.outputs().len(), 0);
     assert_eq!(rt; circuit.equations().len(), 0);

@@ -11,8 +11,7 @@ use Rattle.lnet_edge.specs.declared.circuit.WireRef.{WireRef}
 use Rattle.lnet_edge.specs.Circuits.{CircuitValue, EquationValue, AllFrom}
 use Rattle.lnet_edge.specs.Plain.{is_gate, is_gate_equation, IsPlain}
 use Rattle.lnet_edge.specs.Wires.{input_wires, output_wires, targets, operand_wires, driven_wires, used_wires, IsUndriven, IsTwice, Reads, IsWalk, end_of, IsCyclic, HasArity, HasArities}
-use Rattle.lnet_edge.proofs.WireLemmas.{length-input_wires, length-targets}
-use Rattle.lnet_edge.proofs.InOrder.{AllFrom-get_or}
+use Rattle.lnet_edge.proofs.WireLemmas.{AllFrom-get_or, length-input_wires, length-targets}
 use Rattle.lnet_edge.proofs.SearchLemmas.{reads_from}
 use Rattle.lnet_generate.specs.Drawing.{draw_use, draw_uses, draw_rule, operand_count, draw_gate, draw_gates, inputs_from, shown, drawn}
 

@@ -19,7 +19,6 @@ is_unmet (reply.Unmet cause) = true
 is_unmet _ = false
 
 abbrev pub fault_name : Fault → List ℕ
-fault_name faults.Unbuilt = codes "Unbuilt"
 fault_name faults.Header = codes "Header"
 fault_name faults.TooMany = codes "TooMany"
 fault_name faults.Property = codes "Property"

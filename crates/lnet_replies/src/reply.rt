@@ -126,7 +126,6 @@ fn fault_name(fault: Fault) -> &'static str
     ensures { result.now ≡ fault_name fault }
 {
     match fault {
-        Fault::Unbuilt => "Unbuilt",
         Fault::Header => "Header",
         Fault::TooMany => "TooMany",
         Fault::Property => "Property",

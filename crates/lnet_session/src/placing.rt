@@ -12,10 +12,7 @@ ghost use Rattle.lnet_session.specs.Sessions.{IsGood, state_of};
 
 use crate::circuits::{build, export};
 use crate::session::{Session, Stop};
-use lnet_aiger::{ReadError as AigerError, read as read_aiger};
-use lnet_bench::{ReadError as BenchError, read as read_bench};
-use lnet_blif::{ReadError as BlifError, read as read_blif};
-use lnet_edge::{Circuit, FetchError, Files, Malformed, Name};
+use lnet_edge::{Circuit, FetchError, Files, Name, ReadError};
 use lnet_gates::Kind;
 use lnet_generate::generate;
 use lnet_replies::{Reply, Unmet};
@@ -23,37 +20,16 @@ use lnet_script::ReadFormat;
 use lnet_store::{AddError, View};
 use std::alloc::Global;
 
-/// Why a content gave no circuit.
-#[derive(Clone, Copy)]
-enum LoadError {
-    /// It means none.
-    Malformed(Malformed),
-    /// Memory ran out.
-    NoMemory,
-}
-
 /// The circuit that the bytes mean in the format.
-fn circuit_of(alloc: Global, format: ReadFormat, bytes: &[u8]) -> Result<Circuit, LoadError>
+fn circuit_of(alloc: Global, format: ReadFormat, bytes: &[u8]) -> Result<Circuit, ReadError>
     requires { length bytes.now ≤ file_limit }
     ensures means { IfOk result (MeansIn format bytes.now) }
-    ensures malformed { (m : MalformedValue) → result ≡ Err (LoadError.Malformed m) → IsMalformed format bytes.now m }
+    ensures malformed { (m : MalformedValue) → result ≡ Err (ReadError.Malformed m) → IsMalformed format bytes.now m }
 {
     match format {
-        ReadFormat::Aiger => match read_aiger(alloc, bytes) {
-            Ok(circuit) => Ok(circuit),
-            Err(AigerError::Malformed(broken)) => Err(LoadError::Malformed(broken)),
-            Err(AigerError::NoMemory) => Err(LoadError::NoMemory),
-        },
-        ReadFormat::Blif => match read_blif(alloc, bytes) {
-            Ok(circuit) => Ok(circuit),
-            Err(BlifError::Malformed(broken)) => Err(LoadError::Malformed(broken)),
-            Err(BlifError::NoMemory) => Err(LoadError::NoMemory),
-        },
-        ReadFormat::Bench => match read_bench(alloc, bytes) {
-            Ok(circuit) => Ok(circuit),
-            Err(BenchError::Malformed(broken)) => Err(LoadError::Malformed(broken)),
-            Err(BenchError::NoMemory) => Err(LoadError::NoMemory),
-        },
+        ReadFormat::Aiger => lnet_aiger::read(alloc, bytes),
+        ReadFormat::Blif => lnet_blif::read(alloc, bytes),
+        ReadFormat::Bench => lnet_bench::read(alloc, bytes),
     }
 }
 
@@ -90,10 +66,10 @@ impl Session {
     {
         match circuit_of(alloc, format, bytes) {
             Ok(circuit) => self.place_circuit(alloc, kind, &circuit),
-            Err(LoadError::Malformed(broken)) => {
+            Err(ReadError::Malformed(broken)) => {
                 Ok(Reply::Unmet(Unmet::Malformed(broken.line, broken.kind)))
             }
-            Err(LoadError::NoMemory) => Err(Stop::NoMemory),
+            Err(ReadError::NoMemory) => Err(Stop::NoMemory),
         }
     }
 

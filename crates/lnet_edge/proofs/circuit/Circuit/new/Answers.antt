@@ -1,4 +1,4 @@
-use Rattle.std.proofs.Common.{◌≡◌, ◌+◌, length, arith}
+use Rattle.std.proofs.Common.{arith}
 use Rattle.lnet_edge.proofs.WireLemmas.{length-views}
 use Rattle.lnet_edge.proofs.FaultLemmas.{undriven_found, knows_of, drives_of, checked, cyclic_by, acyclic_by}
 use Rattle.lnet_edge.proofs.PlainLemmas.{plain_by}

@@ -9,9 +9,11 @@ is the built program without its launcher: the processor time of the user and th
 runs, whose order goes round the commands so that a busy moment meets them all. The start of the program is the time of a
 file without inputs and gates, and is taken off before the second ratio is made. That ratio is near 10 where the time goes
 up with the size alone, and near 100 where it goes up with its square. Where berkeley-abc is installed, it reads, hashes
-and writes the same files.
+and writes the same files. Where valgrind is installed, the instructions of one run of each of our commands are counted:
+they don't depend on the memory beside the processor, nor on what else the machine does.
 """
 import os
+import re
 import shutil
 import statistics
 import subprocess
@@ -23,6 +25,7 @@ PROGRAM = os.path.join(TOP, "crates", "lognet", "out", "lognet")
 INPUTS, OUTPUTS = 64, 32
 SIZES = [10_000, 100_000]
 ABC = shutil.which("berkeley-abc")
+VALGRIND = shutil.which("valgrind")
 # What is timed: a name, the word behind `read`, the word behind `write` and the file's ending, and ABC's words.
 FORMATS = [
     ("ASCII AIGER", "aiger", "aag", None, None),
@@ -62,6 +65,16 @@ def seconds(command, folder):
     if child.returncode:
         sys.exit(f"status {child.returncode}: {command}")
     return usage.ru_utime + usage.ru_stime
+
+
+def instructions(command, folder):
+    """How many instructions one run of the command takes, which must end with status 0."""
+    counted = [VALGRIND, "--tool=callgrind", "--callgrind-out-file=/dev/null", *command]
+    run = subprocess.run(counted, cwd=folder, stdin=subprocess.DEVNULL, stdout=subprocess.DEVNULL, stderr=subprocess.PIPE, text=True)
+    found = re.search(r"Collected : (\d+)", run.stderr)
+    if run.returncode or not found:
+        sys.exit(f"status {run.returncode}: {counted}")
+    return int(found.group(1))
 
 
 def medians(commands, folder, runs):
@@ -116,6 +129,21 @@ def sizes(folder, runs):
         own = 0 if what.endswith("ABC") else start
         lines.append(f"{what} | {a:.2f} | {b:.2f} | {b / a:.1f} | {(b - own) / (a - own):.1f}")
     written("sizes.txt", lines)
+    if VALGRIND:
+        counts(folder, commands)
+
+
+def counts(folder, commands):
+    """The instructions of our commands at both sizes."""
+    small, large = SIZES
+    lines = [
+        "instructions of one run, counted by valgrind",
+        f"what | {small:,} gates | {large:,} gates | ratio",
+    ]
+    for what in [key[0] for key in commands if key[1:] == (small,) and not key[0].endswith("ABC")]:
+        a, b = (instructions(commands[(what, gates)], folder) for gates in SIZES)
+        lines.append(f"{what} | {a:,} | {b:,} | {b / a:.1f}")
+    written("instructions.txt", lines)
 
 
 def examples(runs):

@@ -35,7 +35,9 @@ fn put(rt: &impl Abort, table: &mut Strash, key: Key, n: u32, phase: bool)
 }
 
 /// Removes a key that has a node.
-fn take(rt: &impl Abort, table: &mut Strash, key: &Key) {
+fn take(rt: &impl Abort, table: &mut Strash, key: &Key)
+    ensures room { room table.new ≡ room table.old }
+{
     assert!(rt; table.find(key).is_some());
     table.remove(key);
 }
@@ -64,6 +66,15 @@ fn keys_are_told_apart(rt: HostRuntime) -> Result<(), Fail> {
     take(&rt, &mut table, &key(Op::And, &[2, 5]));
     assert_eq!(rt; table.find(&key(Op::And, &[2, 5])), None);
     assert_eq!(rt; table.find(&key(Op::And, &[2, 4])), Some((Node(3), false)));
+    table.release(Node(8));
+    assert_eq!(rt; table.find(&key(Op::Xor, &[2, 4])), None);
+    // The node may stand under another key now, and one that stands under none may be released.
+    put(&rt, &mut table, key(Op::Maj, &[2, 4, 6]), 8, false);
+    table.release(Node(7));
+    assert_eq!(rt;
+        table.find(&key(Op::Maj, &[2, 4, 6])),
+        Some((Node(8), false))
+    );
     Ok(())
 }
 

@@ -16,7 +16,8 @@ use Rattle.lnet_aiger.specs.declared.header.Header.{Header}
 use Rattle.lnet_aiger.specs.Header.{header_line}
 use Rattle.lnet_aiger.specs.LineRules.{equation_of, input_line, output_line, equation_line}
 use Rattle.lnet_aiger.specs.Symbols.{Ports}
-use Rattle.lnet_aiger.specs.Texts.{IsWritable, variable_of, literal_of, gate_of, header_text, input_text, output_text, gate_text, delta_text, symbols_text, input_names, output_names, names_text, ascii_text, binary_text}
+use Rattle.lnet_aiger.specs.Texts.{IsWritable, variable_of, literal_of, gate_of, header_text, input_text, output_text, gate_text, delta_text, symbols_text, names_text, ascii_text, binary_text}
+use Rattle.lnet_edge.specs.Shown.{input_names, output_names}
 use Rattle.lnet_aiger.specs.Written.{written_input, written_output, written_by, HasNames, MeansSame}
 use Rattle.lnet_aiger.specs.Grammar.{AreLines, AreNamed, IsBody, HasCounts, Spells}
 use Rattle.lnet_aiger.proofs.Variables.{input_variable}
@@ -160,7 +161,7 @@ means_same : (bytes : List ℕ) (c : CircuitValue) → IsCircuit c → IsWritabl
 means_same bytes c is ok spelled = record {
   circuit = written_by (variable_of c) c;
   means = record { spelled = spelled; circuit = IsCircuit-written c is ok };
-  outputs = same_outputs c is ok;
+  shown = same_outputs c is ok;
   inputs_named = names_same (λ (p : InputPort). p.name) (written_input (variable_of c)) (λ p. refl) c.inputs;
   outputs_named = names_same (λ (p : OutputPort). p.name) (written_output (variable_of c)) (λ p. refl) c.outputs;
 }

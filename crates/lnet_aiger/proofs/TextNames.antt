@@ -19,7 +19,8 @@ use Rattle.lnet_aiger.specs.declared.symbol.Side.TheVariants.{Input, Output}
 use Rattle.lnet_aiger.specs.Header.{is_space}
 use Rattle.lnet_aiger.specs.LineRules.{ref_of}
 use Rattle.lnet_aiger.specs.Symbols.{Ports, is_printable, is_name, side_of, symbol_by, symbol_line, name_input, name_output, naming_line}
-use Rattle.lnet_aiger.specs.Texts.{literal_of, symbol_text, symbols_text, input_names, output_names}
+use Rattle.lnet_aiger.specs.Texts.{literal_of, symbol_text, symbols_text}
+use Rattle.lnet_edge.specs.Shown.{input_names, output_names}
 use Rattle.lnet_aiger.specs.Written.{written_input, written_output, HasNames}
 use Rattle.lnet_aiger.specs.Grammar.{AreNamed}
 use Rattle.lnet_aiger.proofs.TextLines.{AreText, text-append, text-decimal, decimal_digits, number_of-decimal, lines_of-text}

@@ -10,7 +10,8 @@ use Rattle.lnet_edge.specs.declared.circuit.InputPort.{InputPort}
 use Rattle.lnet_edge.specs.declared.circuit.OutputPort.{OutputPort}
 use Rattle.lnet_edge.specs.Circuits.{CircuitValue}
 use Rattle.lnet_edge.specs.Wires.{driven_wires}
-use Rattle.lnet_aiger.specs.Texts.{variable_of, groups_text, symbol_text, symbols_text, input_names, output_names}
+use Rattle.lnet_aiger.specs.Texts.{variable_of, groups_text, symbol_text, symbols_text}
+use Rattle.lnet_edge.specs.Shown.{input_names, output_names}
 use Rattle.lnet_aiger.specs.Numberings.{Variables, KnowsPlaces, place_in}
 
 -- the map gives each wire its variable

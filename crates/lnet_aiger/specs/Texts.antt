@@ -1,6 +1,6 @@
 -- The texts that are written. Inputs are variables from 1 on, gates the next ones, in the order of the circuit; of a gate's
 -- operands the greater literal stands first; names follow as symbols.
-use Rattle.std.specs.Prelude.{◌≡◌, ℕ, zero, suc, ◌+◌, ◌-◌, ◌*◌, ◌/◌, ◌%◌, ◌≤◌, false, List, [], ◌∷◌, ◌++◌, length, map, max, min, All, Option, Some, None, unwrap_or, nat_lt, ◌==◌, if◌then◌else◌, codes}
+use Rattle.std.specs.Prelude.{◌≡◌, ℕ, zero, suc, ◌+◌, ◌-◌, ◌*◌, ◌/◌, ◌%◌, ◌≤◌, false, List, [], ◌∷◌, ◌++◌, length, max, min, All, Option, Some, None, unwrap_or, nat_lt, ◌==◌, if◌then◌else◌, codes}
 use Rattle.std.specs.List.{flat_map}
 use Rattle.std.specs.Fmt.{decimal}
 use Rattle.lnet_edge.specs.declared.circuit.WireRef.{WireRef}
@@ -9,6 +9,7 @@ use Rattle.lnet_edge.specs.declared.circuit.OutputPort.{OutputPort}
 use Rattle.lnet_edge.specs.declared.circuit.Rule.TheVariants.{And}
 use Rattle.lnet_edge.specs.Circuits.{CircuitValue, EquationValue}
 use Rattle.lnet_edge.specs.Plain.{IsPlain}
+use Rattle.lnet_edge.specs.Shown.{input_names, output_names}
 use Rattle.lnet_edge.specs.Wires.{driven_wires}
 use Rattle.lnet_aiger.specs.declared.body.Gate.{Gate}
 
@@ -80,12 +81,6 @@ symbol_text letter place (Some name) = letter ∷ (decimal place ++ (32 ∷ (nam
 unfoldable pub symbols_text : ℕ → ℕ → List (Option (List ℕ)) → List ℕ
 symbols_text letter place [] = []
 symbols_text letter place (name ∷ names) = symbol_text letter place name ++ symbols_text letter (place + 1) names
-
-abbrev pub input_names : List InputPort → List (Option (List ℕ))
-input_names ps = map (λ (p : InputPort). p.name) ps
-
-abbrev pub output_names : List OutputPort → List (Option (List ℕ))
-output_names ps = map (λ (p : OutputPort). p.name) ps
 
 -- the lines that name the ports of a circuit: `i` and `o` are the bytes 105 and 111
 abbrev pub names_text : CircuitValue → List ℕ

@@ -1,12 +1,13 @@
 -- The circuit that a text is of, and when bytes mean a circuit that shows the same.
-use Rattle.std.specs.Prelude.{◌≡◌, ℕ, ◌*◌, ◌/◌, Bool, List, map, All, IfSome, Option}
+use Rattle.std.specs.Prelude.{ℕ, ◌*◌, ◌/◌, List, map, All, IfSome, Option}
 use Rattle.lnet_edge.specs.declared.circuit.InputPort.{InputPort}
 use Rattle.lnet_edge.specs.declared.circuit.OutputPort.{OutputPort}
 use Rattle.lnet_edge.specs.Circuits.{CircuitValue}
 use Rattle.lnet_edge.specs.Names.{IsName}
 use Rattle.lnet_edge.specs.Values.{circuit_outputs}
 use Rattle.lnet_aiger.specs.LineRules.{ref_of, equation_of}
-use Rattle.lnet_aiger.specs.Texts.{literal_of, gate_of, input_names, output_names}
+use Rattle.lnet_aiger.specs.Texts.{literal_of, gate_of}
+use Rattle.lnet_edge.specs.Shown.{input_names, output_names, Shows}
 use Rattle.lnet_aiger.specs.Grammar.{Means}
 
 abbrev pub written_input : (ℕ → ℕ) → InputPort → InputPort
@@ -24,9 +25,5 @@ abbrev pub HasNames : List (Option (List ℕ)) → Type 0
 HasNames names = All (λ (name : Option (List ℕ)). IfSome name IsName) names
 
 -- the bytes mean a circuit with the same names of ports in order, and the same outputs under each assignment of the inputs
-pub record MeansSame (bytes : List ℕ) (c : CircuitValue) : Type 0 where
-  pub circuit : CircuitValue
-  pub means : Means bytes circuit
-  pub outputs : (a : ℕ → Bool) → circuit_outputs circuit a ≡ circuit_outputs c a
-  pub inputs_named : input_names circuit.inputs ≡ input_names c.inputs
-  pub outputs_named : output_names circuit.outputs ≡ output_names c.outputs
+abbrev pub MeansSame : List ℕ → CircuitValue → Type 0
+MeansSame bytes c = Shows (Means bytes) (input_names c.inputs) (output_names c.outputs) (circuit_outputs c)

@@ -4,7 +4,8 @@ ghost use Rattle.std.specs.Prelude.{◌≡◌, ℕ, List};
 ghost use Rattle.lnet_edge.specs.Circuits.{CircuitValue};
 ghost use Rattle.lnet_edge.specs.Wires.{IsCircuit};
 ghost use Rattle.lnet_aiger.specs.Grammar.{Means};
-ghost use Rattle.lnet_aiger.specs.Texts.{IsWritable, input_names, output_names, ascii_text, binary_text};
+ghost use Rattle.lnet_aiger.specs.Texts.{IsWritable, ascii_text, binary_text};
+ghost use Rattle.lnet_edge.specs.Shown.{input_names, output_names};
 ghost use Rattle.lnet_aiger.specs.Written.{HasNames, MeansSame};
 
 /// A content means one circuit at most.

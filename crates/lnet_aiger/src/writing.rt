@@ -6,7 +6,8 @@ ghost use Rattle.lnet_aiger.specs.Written.{HasNames, MeansSame};
 ghost use Rattle.std.specs.List.{flat_map};
 ghost use Rattle.lnet_edge.specs.CircuitLists.{equation_view, equation_views};
 ghost use Rattle.lnet_aiger.specs.Numberings.{place_in, literals_view};
-ghost use Rattle.lnet_aiger.specs.Texts.{IsWritable, gate_of, number_text, header_text, input_text, output_text, gate_text, groups_text, delta_text, symbol_text, symbols_text, input_names, output_names, names_text, ports_by, gates_by, head_by, tail_by, ascii_text, binary_text};
+ghost use Rattle.lnet_aiger.specs.Texts.{IsWritable, gate_of, number_text, header_text, input_text, output_text, gate_text, groups_text, delta_text, symbol_text, symbols_text, names_text, ports_by, gates_by, head_by, tail_by, ascii_text, binary_text};
+ghost use Rattle.lnet_edge.specs.Shown.{input_names, output_names};
 
 use crate::numbering::{Literals, Variables, literal, literals_of, plain_literal, variables_of};
 use lnet_edge::{Circuit, Equation, InputPort, Name, OutputPort};

@@ -11,9 +11,11 @@ use Rattle.lnet_edge.specs.Circuits.{CircuitValue}
 use Rattle.lnet_edge.specs.Values.{input_place}
 use Rattle.lnet_edge.specs.Wires.{input_wires}
 use Rattle.lnet_wires.specs.Naming.{is_seen}
-use Rattle.lnet_naming.specs.Settling.{made_name, settle, settle_all, input_names, input_labels}
+use Rattle.lnet_naming.specs.Settling.{made_name, settle, settle_all, input_labels}
+use Rattle.lnet_edge.specs.Shown.{input_names}
 use Rattle.lnet_nodes.specs.Nodes.{name_at, label_of, node_name}
 use Rattle.lnet_benchmeans.proofs.Plain.{IsOneOf}
+use Rattle.lnet_benchmeans.proofs.Once.{length-input_names}
 
 pub eqb_same : (p q : ℕ) → p ≡ q → eqb p q ≡ true
 eqb_same p q e = elim (eqb_tells p q) as (λ _. eqb p q ≡ true) [ inl h ↦ h.0 | inr h ↦ absurd (h.1 e) ]
@@ -51,15 +53,11 @@ pub length_labels : (letter place : ℕ) (kept : List (List ℕ)) (names : List 
 length_labels letter place kept [] = refl
 length_labels letter place kept (name ∷ names) = ap suc (length_labels letter (place + 1) (settle letter place kept name).1 names)
 
-pub length_names : (ps : List InputPort) → length (input_names ps) ≡ length ps
-length_names [] = refl
-length_names (p ∷ ps) = ap suc (length_names ps)
-
 -- the node of an input has one of the inputs' names
 pub input_named : (c : CircuitValue) (w : ℕ) → IsOneOf (input_wires c.inputs) w → is_seen (input_labels c.inputs) (node_name (label_of c) w) ≡ true
 input_named c w one =
     let p = place_some 0 w c.inputs one in
-    let count = length_labels 105 0 [] (input_names c.inputs) ∙ length_names c.inputs in
+    let count = length_labels 105 0 [] (input_names c.inputs) ∙ length-input_names c.inputs in
     let low = p.1 in
     let r = get_seen (input_labels c.inputs) p.0 (omega arith) in
     let e : 0 + p.0 ≡ p.0 = omega arith in

@@ -12,7 +12,8 @@ use Rattle.lnet_edge.specs.declared.circuit.WireRef.{WireRef}
 use Rattle.lnet_edge.specs.Circuits.{CircuitValue}
 use Rattle.lnet_edge.specs.Wires.{input_wires, targets, driven_wires, IsCircuit}
 use Rattle.lnet_wires.specs.Naming.{is_seen}
-use Rattle.lnet_naming.specs.Settling.{made_name, settle_all, input_names, output_names, input_labels, output_labels}
+use Rattle.lnet_naming.specs.Settling.{made_name, settle_all, input_labels, output_labels}
+use Rattle.lnet_edge.specs.Shown.{input_names, output_names}
 use Rattle.lnet_nodes.specs.Nodes.{label_of}
 use Rattle.lnet_bench.specs.Statements.{StatementValue, Input, Output, Gate}
 use Rattle.lnet_benchwriter.specs.Nodes.{is_turned, uses_of, use_name}

@@ -16,6 +16,16 @@ abbrev pub IsOneOf : List ℕ → ℕ → Type 0
 IsOneOf [] w = ⊥
 IsOneOf (x ∷ xs) w = (w ≡ x) ⊎ IsOneOf xs w
 
+-- what is known, or is one of a list, where the first of the list is known from then on
+pub one-sooner : (K : ℕ → Type 0) (x : ℕ) (xs : List ℕ) (w : ℕ) → (K w ⊎ IsOneOf (x ∷ xs) w) → (((w ≡ x) ⊎ K w) ⊎ IsOneOf xs w)
+one-sooner K x xs w (inl known) = inl (inr known)
+one-sooner K x xs w (inr (inl is)) = inl (inl is)
+one-sooner K x xs w (inr (inr one)) = inr one
+
+pub one-none : (K : ℕ → Type 0) (w : ℕ) → (K w ⊎ IsOneOf [] w) → K w
+one-none K w (inl known) = known
+one-none K w (inr one) = absurd one
+
 one_tells : (xs : List ℕ) (w : ℕ) → IsOneOf xs w ⊎ (Contains xs w → ⊥)
 one_tells [] w = inr (λ h. let low = h.1 in absurd (omega arith))
 one_tells (x ∷ xs) w =

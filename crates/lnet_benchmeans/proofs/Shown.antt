@@ -6,7 +6,8 @@ use Rattle.lnet_edge.specs.declared.circuit.Rule.{Rule}
 use Rattle.lnet_edge.specs.declared.circuit.WireRef.{WireRef}
 use Rattle.lnet_edge.specs.Circuits.{CircuitValue}
 use Rattle.lnet_wires.specs.Naming.{is_seen}
-use Rattle.lnet_naming.specs.Settling.{settle_all, input_names, output_names, input_labels, output_labels}
+use Rattle.lnet_naming.specs.Settling.{settle_all, input_labels, output_labels}
+use Rattle.lnet_edge.specs.Shown.{input_names, output_names}
 use Rattle.lnet_bench.specs.Statements.{StatementValue, Input, Output, Gate, Constant}
 use Rattle.lnet_benchtext.specs.Written.{port_statements, output_statements}
 use Rattle.lnet_benchmeans.specs.Driving.{driven_names, IsUsable, shown_names}

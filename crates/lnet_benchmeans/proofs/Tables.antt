@@ -19,7 +19,7 @@ use Rattle.lnet_benchwriter.specs.Nodes.{constant_name}
 use Rattle.lnet_benchtext.specs.Written.{output_statements, table_statement, table_output_statement}
 use Rattle.lnet_benchmeans.specs.Driving.{IsUsable, IsOrderedBehind}
 use Rattle.lnet_benchmeans.proofs.Falling.{IsAhead}
-use Rattle.lnet_benchmeans.proofs.Plain.{IsOneOf}
+use Rattle.lnet_benchmeans.proofs.Plain.{IsOneOf, one-sooner, one-none}
 
 -- each node of these wires has one of these names
 abbrev pub AreNamed : (ℕ → Option (List ℕ)) → (ℕ → Type 0) → List (List ℕ) → Type 0
@@ -57,18 +57,10 @@ table_then label e ss known usable rest = by (variables e.operands) refl where
 
 -- gates with tables, and what stands behind them
 pub tables_then : (label : ℕ → Option (List ℕ)) (es : List EquationValue) (ss : List StatementValue) (known : List (List ℕ)) (K : ℕ → Type 0) → IsAhead K es → AreNamed label K known → AllByRecursion (λ t. node_name label t ≡ made_name 110 t) (targets es) → ((known' : List (List ℕ)) (L : ℕ → Type 0) → ((w : ℕ) → (K w ⊎ IsOneOf (targets es) w) → L w) → AreNamed label L known' → IsOrderedBehind known' ss) → IsOrderedBehind known (map (table_statement label) es ++ ss)
-tables_then label [] ss known K ahead each named rest = rest known K at_end each where
-  at_end : (w : ℕ) → (K w ⊎ IsOneOf [] w) → K w
-  at_end w (inl k) = k
-  at_end w (inr one) = absurd one
+tables_then label [] ss known K ahead each named rest = rest known K (one-none K) each
 tables_then label (e ∷ es) ss known K ahead each named rest =
     table_then label e (map (table_statement label) es ++ ss) known (variables_usable label K known each e.operands ahead.0)
-    (tables_then label es ss (made_name 110 e.target ∷ known) (λ v. (v ≡ e.target) ⊎ K v) ahead.1 (more_named label K known e.target named.0 each) named.1 (λ known' L later. rest known' L (λ w h. later w (sooner w h))))
-  where
-    sooner : (w : ℕ) → (K w ⊎ IsOneOf (targets (e ∷ es)) w) → (((w ≡ e.target) ⊎ K w) ⊎ IsOneOf (targets es) w)
-    sooner w (inl k) = inl (inr k)
-    sooner w (inr (inl is)) = inl (inl is)
-    sooner w (inr (inr one)) = inr one
+    (tables_then label es ss (made_name 110 e.target ∷ known) (λ v. (v ≡ e.target) ⊎ K v) ahead.1 (more_named label K known e.target named.0 each) named.1 (λ known' L later. rest known' L (λ w h. later w (one-sooner K e.target (targets es) w h))))
 
 -- ---- outputs
 

@@ -17,7 +17,7 @@ use Rattle.lnet_benchtext.specs.Written.{complement_statement, word_statements, 
 use Rattle.lnet_benchmeans.specs.Driving.{IsUsable, IsOrderedBehind}
 use Rattle.lnet_benchmeans.proofs.Differing.{all_first, all_second}
 use Rattle.lnet_benchmeans.proofs.Falling.{IsAhead}
-use Rattle.lnet_benchmeans.proofs.Plain.{IsOneOf}
+use Rattle.lnet_benchmeans.proofs.Plain.{IsOneOf, one-sooner, one-none}
 use Rattle.lnet_benchmeans.proofs.Tables.{AreNamed, more_seen, first_seen, more_named}
 use Rattle.lnet_benchmeans.proofs.Turned.{IsTurnedBy}
 
@@ -77,20 +77,12 @@ complement_then label turned K known t gates ss each others rest = by (turned t)
 
 -- gates with words, their complements, and what stands behind them
 pub words_then : (label : ℕ → Option (List ℕ)) (turned : ℕ → Bool) (es : List EquationValue) (ss : List StatementValue) (known : List (List ℕ)) (K : ℕ → Type 0) → IsAhead K es → AreNamed label K known → AreTurned turned K known → AllByRecursion (λ t. node_name label t ≡ made_name 110 t) (targets es) → AllByRecursion (IsTurnedBy turned) (equation_uses es) → ((known' : List (List ℕ)) (L : ℕ → Type 0) → ((w : ℕ) → (K w ⊎ IsOneOf (targets es) w) → L w) → AreNamed label L known' → AreTurned turned L known' → IsOrderedBehind known' ss) → IsOrderedBehind known (flat_map (word_statements label turned) es ++ ss)
-words_then label turned [] ss known K ahead each others named uses rest = rest known K at_end each others where
-  at_end : (w : ℕ) → (K w ⊎ IsOneOf [] w) → K w
-  at_end w (inl k) = k
-  at_end w (inr one) = absurd one
+words_then label turned [] ss known K ahead each others named uses rest = rest known K (one-none K) each others
 words_then label turned (e ∷ es) ss known K ahead each others named uses rest = (
   uses_usable label turned K known each others e.operands ahead.0 (all_first (IsTurnedBy turned) e.operands (equation_uses es) uses),
   complement_then label turned K known e.target (flat_map (word_statements label turned) es) ss (more_named label K known e.target named.0 each) others (λ known' each' others'.
-      words_then label turned es ss known' (λ v. (v ≡ e.target) ⊎ K v) ahead.1 each' others' named.1 (all_second (IsTurnedBy turned) e.operands (equation_uses es) uses) (λ known'' L later. rest known'' L (λ w h. later w (sooner w h)))),
+      words_then label turned es ss known' (λ v. (v ≡ e.target) ⊎ K v) ahead.1 each' others' named.1 (all_second (IsTurnedBy turned) e.operands (equation_uses es) uses) (λ known'' L later. rest known'' L (λ w h. later w (one-sooner K e.target (targets es) w h)))),
 )
-  where
-    sooner : (w : ℕ) → (K w ⊎ IsOneOf (targets (e ∷ es)) w) → (((w ≡ e.target) ⊎ K w) ⊎ IsOneOf (targets es) w)
-    sooner w (inl k) = inl (inr k)
-    sooner w (inr (inl is)) = inl (inl is)
-    sooner w (inr (inr one)) = inr one
 
 -- ---- outputs
 

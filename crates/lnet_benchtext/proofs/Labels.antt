@@ -11,7 +11,8 @@ use Rattle.lnet_edge.specs.Circuits.{CircuitValue}
 use Rattle.lnet_edge.specs.Names.{IsName}
 use Rattle.lnet_edge.specs.Values.{input_place}
 use Rattle.lnet_wires.specs.Naming.{is_seen, with_name}
-use Rattle.lnet_naming.specs.Settling.{is_text_byte, is_constant, is_made, is_plain, made_name, settle_by, settle, settle_all, input_names, output_names, input_labels, output_labels}
+use Rattle.lnet_naming.specs.Settling.{is_text_byte, is_constant, is_made, is_plain, made_name, settle_by, settle, settle_all, input_labels, output_labels}
+use Rattle.lnet_edge.specs.Shown.{input_names, output_names}
 use Rattle.lnet_nodes.specs.Nodes.{name_at, label_of, node_name}
 use Rattle.lnet_bench.specs.Statements.{is_name_byte, is_name}
 use Rattle.lnet_benchwriter.specs.Nodes.{constant_name, use_name}

@@ -10,7 +10,8 @@ use Rattle.lnet_edge.specs.declared.circuit.Rule.TheVariants.{And}
 use Rattle.lnet_edge.specs.Circuits.{CircuitValue}
 use Rattle.lnet_edge.specs.Wires.{input_wires, targets}
 use Rattle.lnet_edge.proofs.WireLemmas.{length-input_wires, length-targets}
-use Rattle.lnet_naming.specs.Settling.{made_name, input_names, input_labels, output_labels}
+use Rattle.lnet_naming.specs.Settling.{made_name, input_labels, output_labels}
+use Rattle.lnet_edge.specs.Shown.{input_names}
 use Rattle.lnet_nodes.specs.Nodes.{label_of}
 use Rattle.lnet_bench.specs.Statements.{StatementValue, Input, Output, Gate, Constant}
 use Rattle.lnet_bench.specs.Numbering.{inputs_by, equations_by}
@@ -20,8 +21,8 @@ use Rattle.lnet_benchwriter.specs.Texts.{ascending, has_tables, shown_name}
 use Rattle.lnet_benchtext.specs.Written.{port_statements, input_complement_statements, word_statements, output_statements, word_output_statement, word_form_statements, table_statement, table_output_statement, table_form_statements, written_statements}
 use Rattle.lnet_benchmeans.specs.Driving.{driven_names}
 use Rattle.lnet_benchmeans.proofs.Middle.{gate_names, names_both, complements_drive, words_drive, tables_drive}
-use Rattle.lnet_benchmeans.proofs.Nodes.{length_labels, length_names}
-use Rattle.lnet_benchmeans.proofs.Once.{ports_drive}
+use Rattle.lnet_benchmeans.proofs.Nodes.{length_labels}
+use Rattle.lnet_benchmeans.proofs.Once.{length-input_names, ports_drive}
 use Rattle.lnet_benchmeans.proofs.Shown.{as_many_outputs, last_drive}
 use Rattle.lnet_benchmeans.proofs.TableTexts.{tables_written}
 use Rattle.lnet_benchmeans.proofs.WordTexts.{words_written}
@@ -63,7 +64,7 @@ few_with_ports c form =
     let sum = length-append (driven_names (port_statements c)) (driven_names form) in
     let ports = ap length (ports_drive c) in
     let labels = length-append (input_labels c.inputs) [] in
-    let count = length_labels 105 0 [] (input_names c.inputs) ∙ length_names c.inputs in
+    let count = length_labels 105 0 [] (input_names c.inputs) ∙ length-input_names c.inputs in
     omega arith
 
 few_tables : (c : CircuitValue) → length (driven_names (table_form_statements (label_of c) c)) ≤ 2 * length c.equations + length c.outputs

@@ -6,10 +6,12 @@ use Rattle.lnet_edge.specs.Circuits.{CircuitValue, AllFrom}
 use Rattle.lnet_edge.specs.Wires.{input_wires, IsCircuit}
 use Rattle.lnet_edge.specs.Values.{value_of, ref_value, driven, input_or, equation_at}
 use Rattle.lnet_edge.proofs.ValueLemmas.{value_once}
-use Rattle.lnet_naming.specs.Settling.{made_name, input_names, input_labels}
+use Rattle.lnet_naming.specs.Settling.{made_name, input_labels}
+use Rattle.lnet_edge.specs.Shown.{input_names}
 use Rattle.lnet_nodes.specs.Nodes.{name_at, label_of, node_name}
 use Rattle.lnet_benchmeans.proofs.Plain.{IsOneOf}
-use Rattle.lnet_benchmeans.proofs.Nodes.{place_some, length_labels, length_names}
+use Rattle.lnet_benchmeans.proofs.Nodes.{place_some, length_labels}
+use Rattle.lnet_benchmeans.proofs.Once.{length-input_names}
 
 -- the name of each node of these wires has the node's value
 abbrev pub AreKnown : (List ℕ → Bool) → (ℕ → Bool) → (ℕ → Option (List ℕ)) → (ℕ → Type 0) → Type 0
@@ -36,7 +38,7 @@ at_place v a other i (x ∷ xs) (suc k) all low = let e : (i + 1) + k ≡ i + su
 pub inputs_known : (c : CircuitValue) (a : ℕ → Bool) (v : List ℕ → Bool) → IsCircuit c → AllFrom (λ k x. v x ≡ a k) 0 (input_labels c.inputs) → AreKnown v (value_of c a) (label_of c) (IsOneOf (input_wires c.inputs))
 inputs_known c a v is all w one =
     let p = place_some 0 w c.inputs one in
-    let count = length_labels 105 0 [] (input_names c.inputs) ∙ length_names c.inputs in
+    let count = length_labels 105 0 [] (input_names c.inputs) ∙ length-input_names c.inputs in
     let low = p.1 in
     let e : 0 + p.0 ≡ p.0 = omega arith in
     ap (λ (o : Option ℕ). v (unwrap_or (name_at (input_labels c.inputs) o) (made_name 110 w))) (p.2 ∙ ap Some e)

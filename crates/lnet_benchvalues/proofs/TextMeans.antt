@@ -8,7 +8,8 @@ use Rattle.lnet_edge.specs.Plain.{IsPlain}
 use Rattle.lnet_edge.specs.Values.{circuit_outputs}
 use Rattle.lnet_edge.specs.Wires.{HasArities, IsCircuit}
 use Rattle.lnet_lines.specs.Lines.{lines_of}
-use Rattle.lnet_naming.specs.Settling.{input_names, output_names, input_labels, output_labels}
+use Rattle.lnet_naming.specs.Settling.{input_labels, output_labels}
+use Rattle.lnet_edge.specs.Shown.{input_names, output_names}
 use Rattle.lnet_bench.specs.Statements.{StatementValue}
 use Rattle.lnet_bench.specs.Listing.{nothing, add_all}
 use Rattle.lnet_bench.specs.Texts.{statements_of, driven_by, names_of, circuit_of}

@@ -6,7 +6,8 @@ use Rattle.lnet_edge.specs.Circuits.{CircuitValue, AllFrom}
 use Rattle.lnet_edge.specs.Plain.{IsPlain}
 use Rattle.lnet_edge.specs.Values.{ref_value, circuit_outputs}
 use Rattle.lnet_edge.specs.Wires.{IsCircuit}
-use Rattle.lnet_naming.specs.Settling.{input_names, output_names, input_labels, output_labels}
+use Rattle.lnet_naming.specs.Settling.{input_labels, output_labels}
+use Rattle.lnet_edge.specs.Shown.{input_names, output_names}
 use Rattle.lnet_nodes.specs.Nodes.{label_of}
 use Rattle.lnet_bench.specs.Statements.{StatementValue, Input, Output, Gate, Constant}
 use Rattle.lnet_bench.specs.Numbering.{inputs_by, outputs_by}

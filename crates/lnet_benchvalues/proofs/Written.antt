@@ -21,7 +21,7 @@ module _ (c : CircuitValue) (names : HasNames c) (wires : HasWires c) (rules : I
   means_same means = record {
     circuit = circuit_of (written_statements c);
     means = means;
-    outputs = written_outputs c names wires rules plain means.rules;
+    shown = written_outputs c names wires rules plain means.rules;
     inputs_named = written_input_names c;
     outputs_named = written_output_names c;
   }

@@ -13,7 +13,7 @@ use Rattle.lnet_nodes.specs.Nodes.{node_name}
 use Rattle.lnet_nodes.specs.Rows.{variables, operand_values, gate_value}
 use Rattle.lnet_blifwriter.specs.Texts.{operand_names}
 use Rattle.lnet_benchmeans.proofs.Falling.{IsAhead}
-use Rattle.lnet_benchmeans.proofs.Plain.{IsOneOf}
+use Rattle.lnet_benchmeans.proofs.Plain.{IsOneOf, one-sooner}
 use Rattle.lnet_bliftext.specs.Written.{true_rows, gate_cover}
 use Rattle.lnet_blifmeans.proofs.Shape.{true_cover}
 use Rattle.lnet_blifmeans.proofs.CoverRows.{rows_value}
@@ -98,13 +98,8 @@ pub gates_agree : (v : List ℕ → Bool) (label : ℕ → Option (List ℕ)) (v
 gates_agree v label value K [] none ahead named holds covered agree w (inl k) = agree w k
 gates_agree v label value K [] none ahead named holds covered agree w (inr one) = absurd one
 gates_agree v label value K (e ∷ es) none ahead named holds covered agree w met =
-    gates_agree v label value (λ u. (u ≡ e.target) ⊎ K u) es none ahead.1 named.1 holds.1 covered.1 more w (sooner met)
+    gates_agree v label value (λ u. (u ≡ e.target) ⊎ K u) es none ahead.1 named.1 holds.1 covered.1 more w (one-sooner K e.target (targets es) w met)
   where
     more : Agree v label value (λ u. (u ≡ e.target) ⊎ K u)
     more u (inl is) = ap (λ (t : ℕ). v (node_name label t)) is ∙ ap v named.0 ∙ gate_agrees v label value K e none agree ahead.0 holds.0 covered.0 ∙ ap value (sym is)
     more u (inr k) = agree u k
-
-    sooner : (K w ⊎ IsOneOf (targets (e ∷ es)) w) → (((w ≡ e.target) ⊎ K w) ⊎ IsOneOf (targets es) w)
-    sooner (inl k) = inl (inr k)
-    sooner (inr (inl is)) = inl (inl is)
-    sooner (inr (inr one)) = inr one

@@ -7,7 +7,8 @@ use Rattle.lnet_edge.specs.declared.circuit.OutputPort.{OutputPort}
 use Rattle.lnet_edge.specs.declared.circuit.WireRef.{WireRef}
 use Rattle.lnet_edge.specs.Circuits.{CircuitValue, EquationValue}
 use Rattle.lnet_edge.specs.Wires.{input_wires, targets, IsCircuit}
-use Rattle.lnet_naming.specs.Settling.{made_name, settle_all, input_names, output_names, input_labels, output_labels}
+use Rattle.lnet_naming.specs.Settling.{made_name, settle_all, input_labels, output_labels}
+use Rattle.lnet_edge.specs.Shown.{input_names, output_names}
 use Rattle.lnet_nodes.specs.Nodes.{label_of, node_name}
 use Rattle.lnet_benchmeans.specs.Driving.{HasWires}
 use Rattle.lnet_benchmeans.proofs.Differing.{Differ, all_both, all_weak, all_second, differ_both, differ_second, apart_by, distinct_names}

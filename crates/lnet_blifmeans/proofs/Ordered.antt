@@ -20,7 +20,7 @@ use Rattle.lnet_blifwriter.specs.Texts.{operand_names}
 use Rattle.lnet_benchmeans.specs.Driving.{HasWires}
 use Rattle.lnet_benchmeans.proofs.Differing.{all_weak, all_first, all_second}
 use Rattle.lnet_benchmeans.proofs.Falling.{IsAhead}
-use Rattle.lnet_benchmeans.proofs.Plain.{IsOneOf, used_one, plain_ahead}
+use Rattle.lnet_benchmeans.proofs.Plain.{IsOneOf, used_one, plain_ahead, one-sooner, one-none}
 use Rattle.lnet_benchmeans.proofs.Middle.{gate_names}
 use Rattle.lnet_benchmeans.proofs.Nodes.{input_named}
 use Rattle.lnet_benchmeans.proofs.Tables.{AreNamed, more_named, more_seen}
@@ -48,19 +48,11 @@ variables_seen label K known each (r ∷ rs) all =
 
 -- the covers of gates, and what stands behind them
 gates_then : (label : ℕ → Option (List ℕ)) (es : List EquationValue) (ks : List CoverLines) (known : List (List ℕ)) (K : ℕ → Type 0) → IsAhead K es → AreNamed label K known → AllByRecursion (λ t. node_name label t ≡ made_name 110 t) (targets es) → ((known' : List (List ℕ)) (L : ℕ → Type 0) → ((w : ℕ) → (K w ⊎ IsOneOf (targets es) w) → L w) → AreNamed label L known' → AreAhead known' ks) → AreAhead known (map (gate_cover label) es ++ ks)
-gates_then label [] ks known K ahead each named rest = rest known K at_end each where
-  at_end : (w : ℕ) → (K w ⊎ IsOneOf [] w) → K w
-  at_end w (inl k) = k
-  at_end w (inr one) = absurd one
+gates_then label [] ks known K ahead each named rest = rest known K (one-none K) each
 gates_then label (e ∷ es) ks known K ahead each named rest = (
   variables_seen label K known each e.operands ahead.0,
-  gates_then label es ks (made_name 110 e.target ∷ known) (λ v. (v ≡ e.target) ⊎ K v) ahead.1 (more_named label K known e.target named.0 each) named.1 (λ known' L later. rest known' L (λ w h. later w (sooner w h))),
+  gates_then label es ks (made_name 110 e.target ∷ known) (λ v. (v ≡ e.target) ⊎ K v) ahead.1 (more_named label K known e.target named.0 each) named.1 (λ known' L later. rest known' L (λ w h. later w (one-sooner K e.target (targets es) w h))),
 )
-  where
-    sooner : (w : ℕ) → (K w ⊎ IsOneOf (targets (e ∷ es)) w) → (((w ≡ e.target) ⊎ K w) ⊎ IsOneOf (targets es) w)
-    sooner w (inl k) = inl (inr k)
-    sooner w (inr (inl is)) = inl (inl is)
-    sooner w (inr (inr one)) = inr one
 
 -- ---- outputs
 

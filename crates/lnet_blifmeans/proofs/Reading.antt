@@ -6,7 +6,8 @@ use Rattle.lnet_edge.specs.Circuits.{CircuitValue}
 use Rattle.lnet_edge.specs.Plain.{IsPlain}
 use Rattle.lnet_edge.specs.Values.{circuit_outputs}
 use Rattle.lnet_edge.specs.Wires.{IsCircuit}
-use Rattle.lnet_naming.specs.Settling.{input_names, output_names, input_labels, output_labels}
+use Rattle.lnet_naming.specs.Settling.{input_labels, output_labels}
+use Rattle.lnet_edge.specs.Shown.{input_names, output_names}
 use Rattle.lnet_blif.specs.Statements.{StatementValue}
 use Rattle.lnet_blif.specs.Numbering.{input_of, output_of}
 use Rattle.lnet_blif.specs.Texts.{names_of, circuit_of}

@@ -25,7 +25,7 @@ module _ (c : CircuitValue) (names : HasNames c) (wires : HasWires c) (rules : I
       record {
         circuit = circuit_of (written_statements c);
         means = means;
-        outputs = read_outputs c d names rules plain means;
+        shown = read_outputs c d names rules plain means;
         inputs_named = read_inputs c d names means;
         outputs_named = read_output_names c d names means;
       }

@@ -11,4 +11,5 @@ pub mod Drivers
 pub mod Searches
 pub mod Plain
 pub mod Values
+pub mod Shown
 pub mod Names

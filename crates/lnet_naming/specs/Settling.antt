@@ -1,11 +1,12 @@
 -- Which names of ports are kept in BLIF and BENCH texts, and what the others are called.
-use Rattle.std.specs.Prelude.{◌≡◌, ℕ, ◌+◌, Bool, true, false, not, ◌&&◌, ◌||◌, ◌==◌, nat_lt, nat_le, nat_eq, List, [], ◌∷◌, ◌++◌, length, drop, map, slice_index, Option, Some, None, codes, if◌then◌else◌}
+use Rattle.std.specs.Prelude.{ℕ, ◌+◌, Bool, true, false, not, ◌&&◌, ◌||◌, ◌==◌, nat_lt, nat_le, List, [], ◌∷◌, length, drop, slice_index, Option, Some, None, codes, if◌then◌else◌}
 use Rattle.std.specs.Char.{is_ascii_digit}
 use Rattle.std.specs.Fmt.{decimal}
 use Rattle.std.specs.List.{list_all}
 use Rattle.std.specs.Str.{str_eq_ignore_ascii_case}
 use Rattle.lnet_edge.specs.declared.circuit.InputPort.{InputPort}
 use Rattle.lnet_edge.specs.declared.circuit.OutputPort.{OutputPort}
+use Rattle.lnet_edge.specs.Shown.{input_names, output_names}
 use Rattle.lnet_naming.specs.declared.settling.Side.{Side}
 use Rattle.lnet_naming.specs.declared.settling.Side.TheVariants.{Input, Output}
 use Rattle.lnet_wires.specs.Naming.{is_seen, with_name}
@@ -56,12 +57,6 @@ settle letter place kept (Some name) = settle_by (made_name letter place) name (
 abbrev pub settle_all : ℕ → ℕ → List (List ℕ) → List (Option (List ℕ)) → List (List ℕ) × List (List ℕ)
 settle_all letter place kept [] = ([], kept)
 settle_all letter place kept (name ∷ names) = ((settle letter place kept name).0 ∷ (settle_all letter (place + 1) (settle letter place kept name).1 names).0, (settle_all letter (place + 1) (settle letter place kept name).1 names).1)
-
-abbrev pub input_names : List InputPort → List (Option (List ℕ))
-input_names ports = map (λ (p : InputPort). p.name) ports
-
-abbrev pub output_names : List OutputPort → List (Option (List ℕ))
-output_names ports = map (λ (p : OutputPort). p.name) ports
 
 -- the names of a circuit's ports: inputs first, then outputs
 abbrev pub input_labels : List InputPort → List (List ℕ)

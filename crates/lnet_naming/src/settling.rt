@@ -2,7 +2,8 @@
 
 ghost use Rattle.std.specs.Prelude.{◌≡◌, ◌<◌, ◌≤◌, Option, map, length, string_bytes, IfOk};
 ghost use Rattle.std.specs.Option.{option_copied};
-ghost use Rattle.lnet_naming.specs.Settling.{letter_of, made_name, keeps, settle, settle_all, input_names, output_names, input_labels, output_labels};
+ghost use Rattle.lnet_naming.specs.Settling.{letter_of, made_name, keeps, settle, settle_all, input_labels, output_labels};
+ghost use Rattle.lnet_edge.specs.Shown.{input_names, output_names};
 
 use crate::kept::Kept;
 use crate::plain::is_plain;

@@ -1,10 +1,7 @@
 -- How the bytes of a script are cut: into lines, which lose their comments, into pieces, and into words.
-use Rattle.std.specs.Prelude.{ℕ, ◌+◌, Bool, ◌||◌, ◌&&◌, not, ◌==◌, nat_lt, nat_le, List, [], ◌∷◌, ◌++◌, length, map, filter, Option, Some, None}
-use Rattle.std.specs.List.{slice_split, before_first, list_all}
-
--- this byte
-abbrev pub is_byte : ℕ → ℕ → Bool
-is_byte c b = b == c
+use Rattle.std.specs.Prelude.{ℕ, ◌+◌, Bool, ◌||◌, ◌&&◌, not, ◌==◌, nat_lt, nat_le, List, [], ◌∷◌, ◌++◌, length, map, filter, Option}
+use Rattle.std.specs.List.{before_first, list_all}
+use Rattle.lnet_words.specs.Cutting.{is_byte, parts, parts_behind}
 
 -- between words stand spaces, tabs and carriage returns
 abbrev pub is_blank : ℕ → Bool
@@ -17,10 +14,6 @@ is_word_byte b = nat_le 33 b && nat_le b 126 && not (b == 59) && not (b == 35)
 -- a word has 1 to 255 of them
 abbrev pub is_word : List ℕ → Bool
 is_word word = nat_lt 0 (length word) && nat_le (length word) 255 && list_all is_word_byte word
-
--- the parts between the bytes that separate
-abbrev pub parts : (ℕ → Bool) → List ℕ → List (List ℕ)
-parts separates bytes = slice_split separates bytes
 
 -- the lines of a script, without their newlines
 abbrev pub lines_of : List ℕ → List (List ℕ)
@@ -55,22 +48,6 @@ pieces_from n (line ∷ lines) = line_pieces n line ++ pieces_from (n + 1) lines
 -- the pieces of a script
 abbrev pub pieces_of : List ℕ → List Piece
 pieces_of bytes = pieces_from 1 (lines_of bytes)
-
--- ---- cutting off one part after the other
-
--- the parts of what stands behind a cut
-abbrev pub parts_behind : (ℕ → Bool) → Option (List ℕ) → List (List ℕ)
-parts_behind separates None = []
-parts_behind separates (Some rest) = parts separates rest
-
--- how many bytes are left behind a cut, with and without the separator
-abbrev pub left : Option (List ℕ) → ℕ
-left None = 0
-left (Some rest) = length rest + 1
-
-abbrev pub left_length : Option (List ℕ) → ℕ
-left_length None = 0
-left_length (Some rest) = length rest
 
 -- the words of what stands behind a cut
 abbrev pub words_behind : Option (List ℕ) → List (List ℕ)

@@ -8,7 +8,8 @@ ghost use Rattle.lnet_script.specs.Adding.{GivesLine, commands_after};
 use crate::command::Command;
 use crate::reading::command;
 use crate::refusal::Refusal;
-use crate::words::{cut, next_word};
+use crate::words::next_word;
+use lnet_words::cut;
 use std::alloc::{AllocFailed, Global};
 
 /// A script has at most this many bytes.

@@ -1,13 +1,14 @@
-//! Bytes cut into parts and words, and what a word stands for.
+//! Words, and what a word stands for.
 
-ghost use Rattle.std.specs.Prelude.{◌≡◌, ◌+◌, ◌<◌, ◌≤◌, ◌∷◌, [], Bool, true, false, length, position, MatchOption};
-ghost use Rattle.std.specs.List.{before_first, list_all};
+ghost use Rattle.std.specs.Prelude.{◌≡◌, ◌<◌, ◌≤◌, ◌∷◌, [], Bool, true, false, length, position, MatchOption};
+ghost use Rattle.std.specs.List.{list_all};
 ghost use Rattle.std.specs.Option.{option_copied};
 ghost use Rattle.std.specs.Char.{is_ascii_digit};
 ghost use Rattle.std.specs.Str.{all_ascii_digits};
 ghost use Rattle.std.specs.Str.Parse.{digits_value};
 ghost use Rattle.lnet_script.specs.Given.{Gives};
-ghost use Rattle.lnet_script.specs.Pieces.{is_byte, is_blank, is_word_byte, is_word, parts, parts_behind, left, left_length, words_of};
+ghost use Rattle.lnet_words.specs.Cutting.{parts, parts_behind, left};
+ghost use Rattle.lnet_script.specs.Pieces.{is_blank, is_word_byte, is_word, words_of};
 ghost use Rattle.lnet_script.specs.Keywords.{is_numeral, long_number_of, number_of, signal_of, count_of, name_of};
 
 use crate::refusal::Refusal;
@@ -15,26 +16,6 @@ use lnet_edge::Name;
 use lnet_gates::{Node, Signal};
 use std::alloc::Global;
 use std::str;
-
-/// The place of the first such byte.
-fn place_of(bytes: &[u8], separator: u8) -> Option<usize>
-    ensures { result ≡ position (is_byte separator) bytes.now }
-{
-    bytes.iter().position(|byte| *byte == separator)
-}
-
-/// The part before the first such byte, and what stands behind that byte.
-pub(crate) fn cut(bytes: &[u8], separator: u8) -> (&[u8], Option<&[u8]>)
-    ensures before { result.0.now ≡ before_first (is_byte separator) bytes.now }
-    ensures parts { parts (is_byte separator) bytes.now ≡ result.0.now ∷ parts_behind (is_byte separator) (option_copied result.1) }
-    ensures shorter { left (option_copied result.1) ≤ length bytes.now }
-    ensures within { length result.0.now + left_length (option_copied result.1) ≤ length bytes.now }
-{
-    match place_of(bytes, separator) {
-        Some(place) => (&bytes[..place], Some(&bytes[place + 1..])),
-        None => (bytes, None),
-    }
-}
 
 /// Whether the byte stands between words: a space, a tab or a carriage return.
 fn is_blank(byte: u8) -> bool

@@ -62,7 +62,7 @@ told (Some k) name text m e = ap (λ (x : Contents). get x name) (sym (same_some
 wrote : (format : WriteFormat) (h : Option Held) (before after : Option Contents) (name : List ℕ) (count : ℕ) (origin : Option CircuitValue) (m : Contents) → FollowsOrigin h origin → Writes format h before name (reply.Wrote count) after → after ≡ Some m → HoldsOrigin (reader_of format) m name origin
 wrote format None before after name count origin m f e is = absurd e
 wrote format (Some h) before after name count origin m f e is =
-    (written_text format h, told before name (written_text format h) m (sym e.2 ∙ is), (f.0, f.1, (e.3.circuit, e.3.means, λ a. e.3.outputs a ∙ f.3 a)))
+    (written_text format h, told before name (written_text format h) m (sym e.2 ∙ is), (f.0, f.1, (e.3.circuit, e.3.means, λ a. e.3.shown a ∙ f.3 a)))
 
 -- a met write wrote
 met-wrote : (format : WriteFormat) (h : Option Held) (before after : Option Contents) (name : List ℕ) (answer : Reply) (origin : Option CircuitValue) (m : Contents) → FollowsOrigin h origin → Writes format h before name answer after → false ≡ is_unmet answer → after ≡ Some m → HoldsOrigin (reader_of format) m name origin

@@ -7,7 +7,7 @@ use Rattle.lnet_model.specs.Values.{network_outputs}
 use Rattle.lnet_edge.specs.Outside.{Contents, file_limit}
 use Rattle.lnet_edge.specs.Circuits.{CircuitValue}
 use Rattle.lnet_edge.specs.Values.{circuit_outputs}
-use Rattle.lnet_aiger.specs.Texts.{input_names, output_names}
+use Rattle.lnet_edge.specs.Shown.{input_names, output_names}
 use Rattle.lnet_naming.specs.Settling.{input_labels, output_labels}
 use Rattle.lnet_build.specs.Built.{names_of}
 use Rattle.lnet_export.specs.Exported.{exported}
@@ -142,7 +142,7 @@ writes-held format o h before after name c text n is kind exports outputs ins ou
     let means : MeansHeld format text h = record {
       circuit = m.circuit;
       means = m.means;
-      outputs = λ a. m.outputs a ∙ outputs a;
+      shown = λ a. m.shown a ∙ outputs a;
       inputs_named = m.inputs_named ∙ inputs-named format h c exports ins;
       outputs_named = m.outputs_named ∙ outputs-named format h c exports outs;
     } in

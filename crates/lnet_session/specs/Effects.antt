@@ -12,8 +12,7 @@ use Rattle.lnet_model.specs.declared.view_spec.ViewSpec.{ViewSpec}
 use Rattle.lnet_model.specs.declared.view_spec.ViewSpec.TheVariants.{Depth}
 use Rattle.lnet_edge.specs.Outside.{Contents, file_limit}
 use Rattle.lnet_edge.specs.Circuits.{CircuitValue}
-use Rattle.lnet_edge.specs.Values.{circuit_outputs}
-use Rattle.lnet_aiger.specs.Texts.{input_names, output_names}
+use Rattle.lnet_edge.specs.Shown.{Shows}
 use Rattle.lnet_print.specs.Printed.{print_text}
 use Rattle.lnet_build.specs.Built.{names_of, numbers_needed}
 use Rattle.lnet_export.specs.Exported.{exported}
@@ -109,12 +108,8 @@ held_outputs_in writes.Blif h = map Some (output_labels (exported h.network h.na
 held_outputs_in writes.Bench h = map Some (output_labels (exported h.network h.names).inputs (exported h.network h.names).outputs)
 
 -- the bytes mean a circuit in the format, with these names, whose outputs are the network's under each assignment
-pub record MeansHeld (format : WriteFormat) (bytes : List ℕ) (h : Held) : Type 0 where
-  pub circuit : CircuitValue
-  pub means : MeansIn (reader_of format) bytes circuit
-  pub outputs : (a : ℕ → Bool) → circuit_outputs circuit a ≡ network_outputs h.network a
-  pub inputs_named : input_names circuit.inputs ≡ held_inputs_in format h
-  pub outputs_named : output_names circuit.outputs ≡ held_outputs_in format h
+abbrev pub MeansHeld : WriteFormat → List ℕ → Held → Type 0
+MeansHeld format bytes h = Shows (MeansIn (reader_of format) bytes) (held_inputs_in format h) (held_outputs_in format h) (network_outputs h.network)
 
 -- writing the network, where one is in place, under this name
 abbrev pub Writes : WriteFormat → Option Held → Option Contents → List ℕ → Reply → Option Contents → Type 0

@@ -1,5 +1,5 @@
 -- The formats of a script: what a content means in one that is read, which rule it breaks, and what is written in one.
-use Rattle.std.specs.Prelude.{◌≡◌, ℕ, Bool, List, Option, Some, map}
+use Rattle.std.specs.Prelude.{◌≡◌, ℕ, List, Option, Some, map}
 use Rattle.lnet_gates.specs.declared.gate.Kind.{Kind}
 use Rattle.lnet_gates.specs.declared.gate.Kind.TheVariants.{Aig}
 use Rattle.lnet_edge.specs.Circuits.{CircuitValue}
@@ -7,7 +7,8 @@ use Rattle.lnet_edge.specs.Values.{circuit_outputs}
 use Rattle.lnet_edge.specs.declared.fault.Malformed.{Malformed}
 use Rattle.lnet_aiger.specs.Grammar as aiger
 use Rattle.lnet_aiger.specs.Faults as aiger_faults
-use Rattle.lnet_aiger.specs.Texts.{ascii_text, binary_text, input_names, output_names}
+use Rattle.lnet_aiger.specs.Texts.{ascii_text, binary_text}
+use Rattle.lnet_edge.specs.Shown.{input_names, output_names, Shows}
 use Rattle.lnet_bench.specs.Meanings as bench
 use Rattle.lnet_benchwriter.specs.Texts.{bench_text}
 use Rattle.lnet_blif.specs.Meanings as blif
@@ -74,9 +75,5 @@ outputs_in writes.Blif c = map Some (output_labels c.inputs c.outputs)
 outputs_in writes.Bench c = map Some (output_labels c.inputs c.outputs)
 
 -- the bytes mean a circuit in the format, with these names, and with the outputs of c under each assignment of the inputs
-pub record IsTextOf (format : WriteFormat) (bytes : List ℕ) (c : CircuitValue) : Type 0 where
-  pub circuit : CircuitValue
-  pub means : MeansIn (reader_of format) bytes circuit
-  pub outputs : (a : ℕ → Bool) → circuit_outputs circuit a ≡ circuit_outputs c a
-  pub inputs_named : input_names circuit.inputs ≡ inputs_in format c
-  pub outputs_named : output_names circuit.outputs ≡ outputs_in format c
+abbrev pub IsTextOf : WriteFormat → List ℕ → CircuitValue → Type 0
+IsTextOf format bytes c = Shows (MeansIn (reader_of format) bytes) (inputs_in format c) (outputs_in format c) (circuit_outputs c)

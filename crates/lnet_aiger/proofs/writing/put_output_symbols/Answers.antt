@@ -3,7 +3,8 @@ use Rattle.std.specs.Prelude.{IfSome}
 use Rattle.std.proofs.lemmas.List.{append-nil}
 use Rattle.std.proofs.lemmas.List.Elements.{All-nil}
 use Rattle.lnet_edge.specs.Names.{IsName}
-use Rattle.lnet_aiger.specs.Texts.{symbol_text, symbols_text, output_names}
+use Rattle.lnet_aiger.specs.Texts.{symbol_text, symbols_text}
+use Rattle.lnet_edge.specs.Shown.{output_names}
 use Rattle.lnet_aiger.proofs.WritingSteps.{output_names_take, symbols_text-nil, output_symbols, joined}
 use Rattle.lnet_aiger.proofs.writing.put_output_symbols.Goals as goal
 

@@ -1,5 +1,6 @@
 use Rattle.std.proofs.Common.{◌≡◌, drop}
-use Rattle.lnet_naming.specs.Settling.{settle_all, input_names}
+use Rattle.lnet_naming.specs.Settling.{settle_all}
+use Rattle.lnet_edge.specs.Shown.{input_names}
 use Rattle.lnet_naming.proofs.Steps.{onto}
 use Rattle.lnet_naming.proofs.settling.settle_inputs.Given as goal
 

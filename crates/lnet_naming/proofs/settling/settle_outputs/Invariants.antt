@@ -1,5 +1,6 @@
 use Rattle.std.proofs.Common.{◌≡◌, drop}
-use Rattle.lnet_naming.specs.Settling.{settle_all, output_names}
+use Rattle.lnet_naming.specs.Settling.{settle_all}
+use Rattle.lnet_edge.specs.Shown.{output_names}
 use Rattle.lnet_naming.proofs.Steps.{onto}
 use Rattle.lnet_naming.proofs.settling.settle_outputs.Given as goal
 

@@ -1,6 +1,7 @@
 use Rattle.std.proofs.Common.{◌≡◌, ◌+◌, ◌≤◌, length}
 use Rattle.std.specs.Option.{option_copied}
-use Rattle.lnet_script.specs.Pieces.{is_byte, left, left_length, line_pieces, pieces_on, parts_behind}
+use Rattle.lnet_words.specs.Cutting.{is_byte, left, left_length, parts_behind}
+use Rattle.lnet_script.specs.Pieces.{line_pieces, pieces_on}
 use Rattle.lnet_script.specs.Adding.{commands_after}
 use Rattle.lnet_script.proofs.script.add_line.Given as goal
 

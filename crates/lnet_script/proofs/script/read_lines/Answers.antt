@@ -1,7 +1,8 @@
 use Rattle.std.proofs.Common.{sym, ◌∙◌, [], arith}
 use Rattle.std.specs.Option.{option_copied}
 use Rattle.std.proofs.lemmas.Result.{err_from_is_err_and}
-use Rattle.lnet_script.specs.Pieces.{is_byte, parts, parts_behind, pieces_of}
+use Rattle.lnet_words.specs.Cutting.{is_byte, parts, parts_behind}
+use Rattle.lnet_script.specs.Pieces.{pieces_of}
 use Rattle.lnet_script.specs.Adding.{commands_after}
 use Rattle.lnet_script.proofs.AddingLemmas.{goes_on, fails, from_none}
 use Rattle.lnet_script.proofs.script.read_lines.Goals as goal

@@ -1,6 +1,7 @@
 use Rattle.std.proofs.Common.{◌≡◌, ◌+◌, ◌≤◌, [], length}
 use Rattle.std.specs.Option.{option_copied}
-use Rattle.lnet_script.specs.Pieces.{is_byte, left, left_length, pieces_from, pieces_of, parts_behind}
+use Rattle.lnet_words.specs.Cutting.{is_byte, left, left_length, parts_behind}
+use Rattle.lnet_script.specs.Pieces.{pieces_from, pieces_of}
 use Rattle.lnet_script.specs.Adding.{commands_after}
 use Rattle.lnet_script.proofs.script.read_lines.Given as goal
 

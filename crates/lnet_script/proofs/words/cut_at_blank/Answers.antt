@@ -1,5 +1,5 @@
 use Rattle.lnet_script.specs.Pieces.{is_blank}
-use Rattle.lnet_script.proofs.Cuts.{cut_parts, uncut}
+use Rattle.lnet_words.proofs.Cuts.{cut_parts, uncut}
 use Rattle.lnet_script.proofs.words.cut_at_blank.Goals as goal
 
 pub returns-in-Some-clause-parts : goal.returns-in-Some-clause-parts

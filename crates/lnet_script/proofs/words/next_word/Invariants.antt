@@ -1,6 +1,7 @@
 use Rattle.std.proofs.Common.{◌≡◌}
 use Rattle.std.specs.Option.{option_copied}
-use Rattle.lnet_script.specs.Pieces.{left, words_of, words_behind}
+use Rattle.lnet_words.specs.Cutting.{left}
+use Rattle.lnet_script.specs.Pieces.{words_of, words_behind}
 use Rattle.lnet_script.proofs.words.next_word.Given as goal
 
 abbrev pub invariant-loop-rest : goal.invariant-loop-rest

@@ -1,5 +1,5 @@
-use Rattle.std.proofs.Common.{Bool, ap, ◌∙◌}
-use Rattle.std.specs.Prelude.{map, not}
+use Rattle.std.proofs.Common.{ap, ◌∙◌}
+use Rattle.std.specs.Prelude.{map}
 use Rattle.lnet_wires.proofs.NameLists.{seen_by}
 use Rattle.lnet_naming.proofs.NameFacts.{fresh_by}
 use Rattle.lnet_naming.proofs.kept.Kept.keep.Goals as goal

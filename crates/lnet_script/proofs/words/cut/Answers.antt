@@ -1,9 +1,0 @@
-use Rattle.lnet_script.specs.Pieces.{is_byte}
-use Rattle.lnet_script.proofs.Cuts.{cut_parts, uncut}
-use Rattle.lnet_script.proofs.words.cut.Goals as goal
-
-pub returns-in-Some-clause-parts : goal.returns-in-Some-clause-parts
-returns-in-Some-clause-parts c = cut_parts (is_byte c.args.separator) c.args.bytes.now c.in-Some.place c.in-Some.ensures
-
-pub returns-in-None-clause-parts : goal.returns-in-None-clause-parts
-returns-in-None-clause-parts c = uncut (is_byte c.args.separator) c.args.bytes.now c.in-None.ensures

@@ -1,16 +1,16 @@
 #!/usr/bin/env python3
-"""Times the program on circuits of two sizes and on the examples, and writes the figures to bench/results/.
+"""Times the program on circuits of three sizes and on the examples, and writes the figures to bench/results/.
 
     bench/run.py [RUNS]     RUNS of each command, 7 where it is left out
 
-The two sizes are made here, always the same: 64 inputs, 32 outputs, and 10,000 or 100,000 And gates, each of two signals
-before it, in ASCII AIGER; a first run of the program makes the same files in binary AIGER, BLIF and BENCH. What is timed
-is the built program without its launcher: the processor time of the user and the system together, the median of the
+The three sizes are made here, always the same: 64 inputs, 32 outputs, and 10,000, 100,000 or 1,000,000 And gates, each of
+two signals before it, in ASCII AIGER; a first run of the program makes the same files in binary AIGER, BLIF and BENCH. What
+is timed is the built program without its launcher: the processor time of the user and the system together, the median of the
 runs, whose order goes round the commands so that a busy moment meets them all. The start of the program is the time of a
-file without inputs and gates, and is taken off before the second ratio is made. That ratio is near 10 where the time goes
-up with the size alone, and near 100 where it goes up with its square. Where berkeley-abc is installed, it reads, hashes
-and writes the same files. Where valgrind is installed, the instructions of one run of each of our commands are counted:
-they don't depend on the memory beside the processor, nor on what else the machine does.
+file without inputs and gates, and is taken off before the ratios of a size to the one before are made. A ratio is near 10
+where the time goes up with the size alone, and near 100 where it goes up with its square. Where berkeley-abc is installed,
+it reads, hashes and writes the same files. Where valgrind is installed, the instructions of one run of each of our commands
+are counted, at the first two sizes: they don't depend on the memory beside the processor, nor on what else the machine does.
 """
 import os
 import re
@@ -23,7 +23,7 @@ import tempfile
 TOP = os.path.dirname(os.path.dirname(os.path.abspath(__file__)))
 PROGRAM = os.path.join(TOP, "crates", "lognet", "out", "lognet")
 INPUTS, OUTPUTS = 64, 32
-SIZES = [10_000, 100_000]
+SIZES = [10_000, 100_000, 1_000_000]
 ABC = shutil.which("berkeley-abc")
 VALGRIND = shutil.which("valgrind")
 # What is timed: a name, the word behind `read`, the word behind `write` and the file's ending, and ABC's words.
@@ -107,7 +107,7 @@ def commands_of(gates):
 
 
 def sizes(folder, runs):
-    """Both sizes, read alone, and read and written in each format."""
+    """Each size, read alone, and read and written in each format."""
     with open(os.path.join(folder, "start.aag"), "w", encoding="ascii") as file:
         file.write("aag 0 0 0 0 0\n")
     commands = {"start": [PROGRAM, "read aiger start.aag aig"]}
@@ -118,30 +118,31 @@ def sizes(folder, runs):
         seconds([PROGRAM, f"read aiger {gates}.aag aig; {writes}"], folder)
         commands |= commands_of(gates)
     taken = medians(commands, folder, runs)
-    small, large = SIZES
     start = taken["start"]
+    heads = [f"{gates:,} gates" for gates in SIZES]
     lines = [
         f"median of {runs} runs, processor time in milliseconds; the start alone {start:.2f}",
-        f"what | {small:,} gates | {large:,} gates | ratio | ratio without the start",
+        " | ".join(["what", *heads, "ratios without the start"]),
     ]
-    for what in [key[0] for key in commands if key[1:] == (small,)]:
-        a, b = taken[(what, small)], taken[(what, large)]
+    for what in [key[0] for key in commands if key[1:] == (SIZES[0],)]:
         own = 0 if what.endswith("ABC") else start
-        lines.append(f"{what} | {a:.2f} | {b:.2f} | {b / a:.1f} | {(b - own) / (a - own):.1f}")
+        times = [taken[(what, gates)] for gates in SIZES]
+        ratios = [f"{(large - own) / (small - own):.1f}" for small, large in zip(times, times[1:])]
+        lines.append(" | ".join([what, *(f"{time:.2f}" for time in times), ", ".join(ratios)]))
     written("sizes.txt", lines)
     if VALGRIND:
         counts(folder, commands)
 
 
 def counts(folder, commands):
-    """The instructions of our commands at both sizes."""
-    small, large = SIZES
+    """The instructions of our commands at the first two sizes."""
+    small, large, _ = SIZES
     lines = [
         "instructions of one run, counted by valgrind",
         f"what | {small:,} gates | {large:,} gates | ratio",
     ]
     for what in [key[0] for key in commands if key[1:] == (small,) and not key[0].endswith("ABC")]:
-        a, b = (instructions(commands[(what, gates)], folder) for gates in SIZES)
+        a, b = (instructions(commands[(what, gates)], folder) for gates in (small, large))
         lines.append(f"{what} | {a:,} | {b:,} | {b / a:.1f}")
     written("instructions.txt", lines)
 

@@ -16,6 +16,3 @@ mod writing;
 pub use laws::{one_meaning, texts_keep_outputs};
 pub use reading::read;
 pub use writing::{write_ascii, write_binary};
-
-#[cfg(test)]
-mod tests;

@@ -3,7 +3,5 @@
 
 mod any;
 mod substituting;
-#[cfg(test)]
-mod tests;
 
 pub use any::AnyNet;

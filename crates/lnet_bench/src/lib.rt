@@ -6,8 +6,6 @@ mod laws;
 mod listing;
 mod reading;
 mod statements;
-#[cfg(test)]
-mod tests;
 mod texts;
 mod wiring;
 

@@ -9,6 +9,3 @@ pub use laws::{
     written_text_means,
 };
 pub use writing::write;
-
-#[cfg(test)]
-mod tests;

@@ -10,6 +10,3 @@ mod words;
 mod writing;
 
 pub use writing::write;
-
-#[cfg(test)]
-mod tests;

@@ -6,8 +6,6 @@ mod listing;
 mod reading;
 mod statements;
 mod tables;
-#[cfg(test)]
-mod tests;
 
 pub use laws::{lines_of_each_form, lines_of_no_form};
 pub use reading::read;

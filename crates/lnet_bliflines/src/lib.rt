@@ -2,7 +2,5 @@
 #![tactic(auto)]
 
 mod joining;
-#[cfg(test)]
-mod tests;
 
 pub use joining::{TextLine, next_line};

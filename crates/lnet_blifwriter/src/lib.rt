@@ -6,6 +6,3 @@ mod words;
 mod writing;
 
 pub use writing::write;
-
-#[cfg(test)]
-mod tests;

@@ -6,7 +6,5 @@ mod equations;
 mod naming;
 mod ports;
 mod signals;
-#[cfg(test)]
-mod tests;
 
 pub use building::build;

@@ -5,7 +5,5 @@ mod cascading;
 mod losing;
 mod redirecting;
 mod substituting;
-#[cfg(test)]
-mod tests;
 
 pub use substituting::substitute;

@@ -7,13 +7,9 @@ mod kinds;
 mod laws;
 mod laying;
 mod normal;
-#[cfg(test)]
-mod plan_tests;
 mod planning;
 mod signal;
 mod tabling;
-#[cfg(test)]
-mod tests;
 mod wiring;
 mod words;
 

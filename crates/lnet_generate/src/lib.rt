@@ -5,6 +5,3 @@ mod drawing;
 mod generating;
 
 pub use generating::generate;
-
-#[cfg(test)]
-mod tests;

@@ -27,8 +27,6 @@ mod placing;
 mod subscribing;
 mod sweeping;
 mod telling;
-#[cfg(test)]
-mod tests;
 
 pub use hashed::{Hashed, add_input, held, remove, reserve};
 pub use keys::Keys;

@@ -6,8 +6,6 @@ mod operations;
 mod outputs;
 mod reading;
 mod substituting;
-#[cfg(test)]
-mod tests;
 mod viewing;
 
 pub use network::{Core, Network};

@@ -6,6 +6,3 @@ mod rows;
 
 pub use labels::{Labels, labels_of, put_node};
 pub use rows::{gate_value, variables};
-
-#[cfg(test)]
-mod tests;

@@ -5,8 +5,6 @@ mod canonical;
 mod exchanges;
 mod marking;
 mod rewiring;
-#[cfg(test)]
-mod tests;
 mod transforms;
 mod words;
 

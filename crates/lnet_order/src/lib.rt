@@ -4,8 +4,6 @@
 mod laws;
 mod ordering;
 mod places;
-#[cfg(test)]
-mod tests;
 
 pub use laws::{operands_come_first, worked_row};
 pub use ordering::order;

@@ -6,8 +6,6 @@ mod laws;
 mod nodes;
 mod printing;
 mod signals;
-#[cfg(test)]
-mod tests;
 
 pub use counting::gate_count;
 pub use laws::worked_texts;

@@ -2,7 +2,5 @@
 #![tactic(auto)]
 
 mod reply;
-#[cfg(test)]
-mod tests;
 
 pub use reply::{Reply, Unmet, is_met, text_of_reply};

@@ -6,8 +6,6 @@ mod majority;
 mod plain;
 mod proposal;
 pub mod resyn;
-#[cfg(test)]
-mod tests;
 
 pub use classes::{NpnCache, npn_proposal};
 pub use majority::majority_proposal;

@@ -7,8 +7,6 @@ mod gates;
 mod inputs;
 mod passing;
 mod simulating;
-#[cfg(test)]
-mod tests;
 
 pub use comparing::equal_exhaustive;
 pub use simulating::simulate;

@@ -5,8 +5,6 @@ mod cover;
 mod covering;
 mod factoring;
 mod laws;
-#[cfg(test)]
-mod tests;
 
 pub use cover::{Cover, Cube};
 pub use covering::isop;

@@ -8,8 +8,6 @@ mod look;
 mod reaching;
 mod slots;
 mod store;
-#[cfg(test)]
-mod tests;
 mod view;
 
 pub use lnet_model::{Cut, CutRule, Event, ViewKind, ViewSpec};

@@ -4,7 +4,5 @@
 mod chains;
 mod hashing;
 mod table;
-#[cfg(test)]
-mod tests;
 
 pub use table::Strash;

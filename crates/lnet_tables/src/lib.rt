@@ -6,15 +6,11 @@ mod expansion;
 mod logic;
 mod masks;
 mod recipe;
-#[cfg(test)]
-mod recipe_tests;
 mod reorder;
 mod rows;
 mod step;
 mod swaps;
 mod table;
-#[cfg(test)]
-mod tests;
 mod words;
 
 pub use expansion::shannon;

@@ -5,13 +5,9 @@ mod building;
 mod depth;
 mod following;
 mod kept;
-#[cfg(test)]
-mod leftmost_tests;
 mod queue;
 mod repairing;
 mod rule;
-#[cfg(test)]
-mod tests;
 
 pub use depth::DepthView;
 pub use following::Follow;

@@ -50,25 +50,3 @@ impl<'a> Wires<'a> {
         Ok(place as u32 + 1)
     }
 }
-
-#[cfg(test)]
-mod tests {
-    use super::*;
-    use std::test::Fail;
-
-    #[test]
-    fn first_seen_first(rt: HostRuntime) -> Result<(), Fail> {
-        let mut wires = Wires::new(rt.alloc());
-        let names: [&[u8]; 5] = [b"a", b"b", b"a", b"ab", b"b"];
-        for name in names {
-            let wire = wires.wire(name)?;
-            let expected = match name {
-                b"a" => 1,
-                b"b" => 2,
-                _ => 3,
-            };
-            assert_eq!(rt; wire, expected);
-        }
-        Ok(())
-    }
-}

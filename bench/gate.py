@@ -39,7 +39,7 @@ def processes():
                 stat = file.read().rpartition(")")[2].split()
         except OSError:
             continue
-        yield (name, stat[19]), words, sum(int(it) for it in stat[11:15]) / TICKS
+        yield (name, stat[19]), words, sum(int(it) for it in stat[11:13]) / TICKS
 
 
 def place_of(words):

@@ -8,7 +8,6 @@ use Rattle.lnet_script.specs.declared.command.Command.{Command}
 use Rattle.lnet_session.specs.declared.stepping.StepEnd.{StepEnd}
 use Rattle.lnet_session.specs.declared.stepping.StepEnd.TheVariants as ends
 use Rattle.lnet_replies.specs.declared.reply.Reply.{Reply}
-use Rattle.lnet_replies.specs.declared.reply.Reply.TheVariants as reply
 use Rattle.lnet_replies.specs.declared.reply.Unmet.{Unmet}
 use Rattle.lnet_replies.specs.Texts.{is_unmet, reply_text}
 use Rattle.lnet_session.specs.Steps.{World, Steps, Ended, Grows, end_of}
@@ -53,28 +52,10 @@ ran_more cs c stop u b start old mid new origin ran ended which files sink =
 
 -- how an end says whether the command was met
 pub met_is : (answer : Reply) → ends.Met ≡ end_of answer → false ≡ is_unmet answer
-met_is (reply.Network k i o g) e = refl
-met_is (reply.Wrote n) e = refl
-met_is (reply.Viewed v asked) e = refl
-met_is (reply.Dropped v) e = refl
-met_is (reply.Level node l) e = refl
-met_is (reply.Printed t) e = refl
-met_is (reply.Simulated values) e = refl
-met_is (reply.Merged node gates) e = refl
-met_is (reply.Stats k i o g d) e = refl
-met_is (reply.Unmet cause) e = absurd cc
+met_is answer e = grind arith
 
 pub unmet_is : (cause : Unmet) (answer : Reply) → ends.Unmet cause ≡ end_of answer → true ≡ is_unmet answer
-unmet_is cause (reply.Network k i o g) e = absurd cc
-unmet_is cause (reply.Wrote n) e = absurd cc
-unmet_is cause (reply.Viewed v asked) e = absurd cc
-unmet_is cause (reply.Dropped v) e = absurd cc
-unmet_is cause (reply.Level node l) e = absurd cc
-unmet_is cause (reply.Printed t) e = absurd cc
-unmet_is cause (reply.Simulated values) e = absurd cc
-unmet_is cause (reply.Merged node gates) e = absurd cc
-unmet_is cause (reply.Stats k i o g d) e = absurd cc
-unmet_is cause (reply.Unmet d) e = refl
+unmet_is cause answer e = grind arith
 
 pub with_met : (u v : Bool) → v ≡ u → v ≡ (u || false)
 with_met u v e = e ∙ sym (or_false u)

@@ -67,23 +67,7 @@ wrote format (Some h) before after name count origin m f e is =
 -- a met write wrote
 met-wrote : (format : WriteFormat) (h : Option Held) (before after : Option Contents) (name : List ℕ) (answer : Reply) (origin : Option CircuitValue) (m : Contents) → FollowsOrigin h origin → Writes format h before name answer after → false ≡ is_unmet answer → after ≡ Some m → HoldsOrigin (reader_of format) m name origin
 met-wrote format h before after name (reply.Wrote count) origin m f w met is = wrote format h before after name count origin m f w is
-met-wrote format h before after name (reply.Unmet cause) origin m f w met is = absurd cc
-met-wrote format None before after name (reply.Network k i o g) origin m f w met is = absurd w
-met-wrote format (Some h) before after name (reply.Network k i o g) origin m f w met is = absurd w
-met-wrote format None before after name (reply.Viewed v asked) origin m f w met is = absurd w
-met-wrote format (Some h) before after name (reply.Viewed v asked) origin m f w met is = absurd w
-met-wrote format None before after name (reply.Dropped v) origin m f w met is = absurd w
-met-wrote format (Some h) before after name (reply.Dropped v) origin m f w met is = absurd w
-met-wrote format None before after name (reply.Level node l) origin m f w met is = absurd w
-met-wrote format (Some h) before after name (reply.Level node l) origin m f w met is = absurd w
-met-wrote format None before after name (reply.Printed t) origin m f w met is = absurd w
-met-wrote format None before after name (reply.Simulated values) origin m f w met is = absurd w
-met-wrote format None before after name (reply.Merged node gates) origin m f w met is = absurd w
-met-wrote format (Some h) before after name (reply.Printed t) origin m f w met is = absurd w
-met-wrote format (Some h) before after name (reply.Simulated values) origin m f w met is = absurd w
-met-wrote format (Some h) before after name (reply.Merged node gates) origin m f w met is = absurd w
-met-wrote format None before after name (reply.Stats k i o g d) origin m f w met is = absurd w
-met-wrote format (Some h) before after name (reply.Stats k i o g d) origin m f w met is = absurd w
+met-wrote format h before after name _ origin m f w met is = absurd (grind arith)
 
 pub writes_follow : (i : ℕ) (cs : List Command) (old mid new : Scene) (text line : List ℕ) (u : Bool) (j : ℕ) (format : WriteFormat) (name : List ℕ) (m : Contents) → old.state.held ≡ None → Runs i cs old mid text u → Turn j (Write format name) mid new line false → new.contents ≡ Some m → HoldsOrigin (reader_of format) m name mid.origin
 writes_follow i cs old mid new text line u j format name m none r t is =

@@ -1,5 +1,5 @@
 -- What a command that puts a network in place, and one that writes it, are found to have done.
-use Rattle.std.proofs.Common.{◌≡◌, ℕ, ◌≤◌, Bool, List, length, Option, Some, None, Result, Ok, Err, refl, sym, ap, subst, ◌∙◌}
+use Rattle.std.proofs.Common.{◌≡◌, ℕ, ◌≤◌, Bool, List, length, Option, Some, Result, Ok, Err, refl, sym, ap, subst, ◌∙◌, arith}
 use Rattle.std.specs.Prelude.{IfOk, OnOk, map}
 use Rattle.lnet_gates.specs.declared.gate.Kind.{Kind}
 use Rattle.lnet_model.specs.Networks.{NetworkValue}
@@ -16,7 +16,6 @@ use Rattle.lnet_names.specs.NameLists.{NamesValue}
 use Rattle.lnet_script.specs.declared.command.ReadFormat.{ReadFormat}
 use Rattle.lnet_script.specs.declared.command.WriteFormat.{WriteFormat}
 use Rattle.lnet_script.specs.declared.command.WriteFormat.TheVariants as writes
-use Rattle.lnet_replies.specs.declared.reply.Unmet.TheVariants as unmet
 use Rattle.lnet_replies.specs.declared.reply.Reply.{Reply}
 use Rattle.lnet_replies.specs.declared.reply.Reply.TheVariants as reply
 use Rattle.lnet_subscriptions.specs.Rolls.{all_shelved}
@@ -24,13 +23,13 @@ use Rattle.lnet_session.specs.declared.session.Stop.{Stop}
 use Rattle.lnet_session.specs.States.{Held, State}
 use Rattle.lnet_session.specs.Made.{IsMadeOf}
 use Rattle.lnet_session.specs.Formats.{HasGatesOf, IsTextOf, MeansIn, inputs_in, outputs_in, text_in}
-use Rattle.lnet_session.specs.Effects.{AgreeOutputs, Converts, Generates, IsFull, MeansHeld, Places, PutsInPlace, Reads, SaysCounts, Writes, held_inputs_in, held_outputs_in, source_of, with_content, written_text}
+use Rattle.lnet_session.specs.Effects.{AgreeOutputs, Converts, Generates, MeansHeld, Places, PutsInPlace, Reads, SaysCounts, Writes, held_inputs_in, held_outputs_in, source_of, with_content, written_text}
 
 -- ---- a network put in place
 
 module _ (old new : State) (kind : Kind) (c : CircuitValue) (N : NetworkValue) (names : NamesValue) (made : IsMadeOf kind (form_of kind) c N) (is : names ≡ names_of c) (held : new.held ≡ Some (record { network = N; names = names })) (roll : new.roll ≡ all_shelved old.roll) where
-  placed : (answer : Reply) → SaysCounts N answer → Places old kind c answer new
-  placed (reply.Network k i o g) says = record {
+  placed-one : (k : Kind) (i o g : ℕ) → SaysCounts N (reply.Network k i o g) → PutsInPlace kind c k i o g old new
+  placed-one k i o g says = record {
     network = N;
     made = made;
     held = held ∙ ap (λ (ns : NamesValue). Some (record { network = N; names = ns })) is;
@@ -40,15 +39,9 @@ module _ (old new : State) (kind : Kind) (c : CircuitValue) (N : NetworkValue) (
     outputs_are = says.2;
     gates_are = says.3;
   }
-  placed (reply.Wrote n) says = absurd says
-  placed (reply.Viewed v asked) says = absurd says
-  placed (reply.Dropped v) says = absurd says
-  placed (reply.Level node l) says = absurd says
-  placed (reply.Printed t) says = absurd says
-  placed (reply.Simulated values) says = absurd says
-  placed (reply.Merged node gates) says = absurd says
-  placed (reply.Stats k i o g d) says = absurd says
-  placed (reply.Unmet cause) says = absurd says
+
+  placed : (answer : Reply) → SaysCounts N answer → Places old kind c answer new
+  placed answer says = grind (arith, placed-one)
 
 pub places : (r : Result Reply Stop) (old new : State) (kind : Kind) (c : CircuitValue) (N : NetworkValue) (names : NamesValue) → IsMadeOf kind (form_of kind) c N → names ≡ names_of c → OnOk r (new.held ≡ Some (record { network = N; names = names })) → OnOk r (new.roll ≡ all_shelved old.roll) → IfOk r (SaysCounts N) → IfOk r (λ answer. Places old kind c answer new)
 places (Err e) old new kind c N names made is held roll says = tt
@@ -57,27 +50,7 @@ places (Ok answer) old new kind c N names made is held roll says = placed old ne
 -- ---- a network of a file
 
 reads-one : (old new : State) (format : ReadFormat) (kind : Kind) (bytes : List ℕ) (c : CircuitValue) → length bytes ≤ file_limit → MeansIn format bytes c → (answer : Reply) → Places old kind c answer new → (source : Option CircuitValue) × Reads old format kind bytes answer source new
-reads-one old new format kind bytes c short means (reply.Network k i o g) p = (Some c, (short, (c, refl, means, p)))
-reads-one old new format kind bytes c short means (reply.Wrote n) p = absurd p
-reads-one old new format kind bytes c short means (reply.Viewed v asked) p = absurd p
-reads-one old new format kind bytes c short means (reply.Dropped v) p = absurd p
-reads-one old new format kind bytes c short means (reply.Level node l) p = absurd p
-reads-one old new format kind bytes c short means (reply.Printed t) p = absurd p
-reads-one old new format kind bytes c short means (reply.Simulated values) p = absurd p
-reads-one old new format kind bytes c short means (reply.Merged node gates) p = absurd p
-reads-one old new format kind bytes c short means (reply.Stats k i o g d) p = absurd p
-reads-one old new format kind bytes c short means (reply.Unmet unmet.NoNetwork) p = absurd p
-reads-one old new format kind bytes c short means (reply.Unmet (unmet.Malformed line fault)) p = absurd p
-reads-one old new format kind bytes c short means (reply.Unmet unmet.TooLong) p = absurd p
-reads-one old new format kind bytes c short means (reply.Unmet unmet.Full) p = (None, (refl, short, (c, means, p)))
-reads-one old new format kind bytes c short means (reply.Unmet unmet.NoView) p = absurd p
-reads-one old new format kind bytes c short means (reply.Unmet unmet.ShelfEmpty) p = absurd p
-reads-one old new format kind bytes c short means (reply.Unmet unmet.NoNode) p = absurd p
-reads-one old new format kind bytes c short means (reply.Unmet unmet.WrongKind) p = absurd p
-reads-one old new format kind bytes c short means (reply.Unmet unmet.Cycle) p = absurd p
-reads-one old new format kind bytes c short means (reply.Unmet (unmet.Unequal inputs assignment)) p = absurd p
-reads-one old new format kind bytes c short means (reply.Unmet unmet.TooWide) p = absurd p
-reads-one old new format kind bytes c short means (reply.Unmet unmet.BadBits) p = absurd p
+reads-one old new format kind bytes c short means answer p = (source_of c answer, grind arith)
 
 pub reads : (r : Result Reply Stop) (old new : State) (format : ReadFormat) (kind : Kind) (bytes : List ℕ) (c : CircuitValue) → length bytes ≤ file_limit → MeansIn format bytes c → IfOk r (λ answer. Places old kind c answer new) → IfOk r (λ answer. (source : Option CircuitValue) × Reads old format kind bytes answer source new)
 reads (Err e) old new format kind bytes c short means p = tt
@@ -96,27 +69,7 @@ agree o n h k is also same = subst (λ (o : Option Held). AgreeOutputs o n) (sym
 
 module _ (old new : State) (h : Held) (kind : Kind) (c : CircuitValue) (held : old.held ≡ Some h) (is : c ≡ exported h.network h.names) (outputs : (a : ℕ → Bool) → circuit_outputs c a ≡ network_outputs h.network a) where
   converts-one : (answer : Reply) → Places old kind c answer new → Converts old (Some h) kind answer new
-  converts-one (reply.Network k i o g) p = (subst (λ (d : CircuitValue). PutsInPlace kind d k i o g old new) is p, agree old.held new.held h (record { network = p.network; names = names_of c }) held p.held (λ a. p.made.values a ∙ outputs a))
-  converts-one (reply.Wrote n) p = absurd p
-  converts-one (reply.Viewed v asked) p = absurd p
-  converts-one (reply.Dropped v) p = absurd p
-  converts-one (reply.Level node l) p = absurd p
-  converts-one (reply.Printed t) p = absurd p
-  converts-one (reply.Simulated values) p = absurd p
-  converts-one (reply.Merged node gates) p = absurd p
-  converts-one (reply.Stats k i o g d) p = absurd p
-  converts-one (reply.Unmet unmet.NoNetwork) p = absurd p
-  converts-one (reply.Unmet (unmet.Malformed line fault)) p = absurd p
-  converts-one (reply.Unmet unmet.TooLong) p = absurd p
-  converts-one (reply.Unmet unmet.Full) p = subst (λ (d : CircuitValue). IsFull kind d old new) is p
-  converts-one (reply.Unmet unmet.NoView) p = absurd p
-  converts-one (reply.Unmet unmet.ShelfEmpty) p = absurd p
-  converts-one (reply.Unmet unmet.NoNode) p = absurd p
-  converts-one (reply.Unmet unmet.WrongKind) p = absurd p
-  converts-one (reply.Unmet unmet.Cycle) p = absurd p
-  converts-one (reply.Unmet (unmet.Unequal inputs assignment)) p = absurd p
-  converts-one (reply.Unmet unmet.TooWide) p = absurd p
-  converts-one (reply.Unmet unmet.BadBits) p = absurd p
+  converts-one answer p = grind (arith, agree)
 
 pub converts : (r : Result Reply Stop) (old new : State) (h : Held) (kind : Kind) (c : CircuitValue) → old.held ≡ Some h → c ≡ exported h.network h.names → ((a : ℕ → Bool) → circuit_outputs c a ≡ network_outputs h.network a) → IfOk r (λ answer. Places old kind c answer new) → IfOk r (λ answer. Converts old old.held kind answer new)
 converts (Err e) old new h kind c held is outputs p = tt

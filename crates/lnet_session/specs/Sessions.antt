@@ -57,3 +57,14 @@ IsGood ghosts s = IsGoodPlace ghosts s.views s.place
 -- no view of the session is live, and those on the shelf are detached
 abbrev pub IsAtRest : {X : Type 0} {F : X → Type 0} → ((b : DynBox X Global F) → Ghosts (F b.vtable)) → Session X F → Type 0
 IsAtRest ghosts s = Rest (spec_in ghosts) s.views
+
+-- ---- the same by what the boxes' vtables bring, as clauses have it
+
+abbrev pub state_by : {X : Type 0} {F : X → Type 0} → ((v : X) → Ghosts (F v)) → Session X F → State
+state_by ghosts s = state_of (λ b. ghosts b.vtable) s
+
+abbrev pub IsGoodBy : {X : Type 0} {F : X → Type 0} → ((v : X) → Ghosts (F v)) → Session X F → Type 0
+IsGoodBy ghosts s = IsGood (λ b. ghosts b.vtable) s
+
+abbrev pub IsAtRestBy : {X : Type 0} {F : X → Type 0} → ((v : X) → Ghosts (F v)) → Session X F → Type 0
+IsAtRestBy ghosts s = IsAtRest (λ b. ghosts b.vtable) s

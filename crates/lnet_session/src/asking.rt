@@ -8,7 +8,7 @@ ghost use Rattle.lnet_edge.specs.Plain.{IsPlain};
 ghost use Rattle.lnet_edge.specs.declared.circuit.Rule.TheVariants.{And};
 ghost use Rattle.lnet_session.specs.Formats.{HasAndsAlone, HasGatesOf, IsTextOf, text_in};
 ghost use Rattle.lnet_session.specs.Effects.{AsksLevel, Counts, Prints, PutsBack, Views, Writes};
-ghost use Rattle.lnet_session.specs.Sessions.{IsGood, state_of};
+ghost use Rattle.lnet_session.specs.Sessions.{IsGoodBy, state_by};
 ghost use Rattle.lnet_session.specs.Steps.{CanWrite};
 
 use crate::circuits::export;
@@ -53,12 +53,12 @@ impl Session {
     /// Attaches the first view of the spec's kind on the shelf.
     pub(crate) fn view(&mut self, spec: ViewSpec) -> Result<Reply, Stop>
         requires rule { IsSpec spec }
-        requires next { (state_of (λ b. ⟦<dyn View as View>⟧ b.vtable) self.old).roll.next < 2 ^ 32 - 1 }
-        requires good { IsGood (λ b. ⟦<dyn View as View>⟧ b.vtable) self.old }
-        ensures views { IfOk result (λ answer. Views (state_of (λ b. ⟦<dyn View as View>⟧ b.vtable) self.old) spec answer (state_of (λ b. ⟦<dyn View as View>⟧ b.vtable) self.new)) }
-        ensures err { OnErr result (state_of (λ b. ⟦<dyn View as View>⟧ b.vtable) self.new ≡ state_of (λ b. ⟦<dyn View as View>⟧ b.vtable) self.old) }
+        requires next { (state_by ⟦<dyn View as View>⟧ self.old).roll.next < 2 ^ 32 - 1 }
+        requires good { IsGoodBy ⟦<dyn View as View>⟧ self.old }
+        ensures views { IfOk result (λ answer. Views (state_by ⟦<dyn View as View>⟧ self.old) spec answer (state_by ⟦<dyn View as View>⟧ self.new)) }
+        ensures err { OnErr result (state_by ⟦<dyn View as View>⟧ self.new ≡ state_by ⟦<dyn View as View>⟧ self.old) }
         ensures memory { IfErr result (λ stop. stop ≡ Stop.NoMemory) }
-        ensures good { IsGood (λ b. ⟦<dyn View as View>⟧ b.vtable) self.new }
+        ensures good { IsGoodBy ⟦<dyn View as View>⟧ self.new }
     {
         if let Some(place) = &mut self.place {
             let attached = self.views.attach(&mut place.network, spec);
@@ -73,11 +73,11 @@ impl Session {
 
     /// Puts the live view with the number back on the shelf.
     pub(crate) fn put_back(&mut self, number: u32) -> Result<Reply, Stop>
-        requires good { IsGood (λ b. ⟦<dyn View as View>⟧ b.vtable) self.old }
-        ensures back { IfOk result (λ answer. PutsBack (state_of (λ b. ⟦<dyn View as View>⟧ b.vtable) self.old) number answer (state_of (λ b. ⟦<dyn View as View>⟧ b.vtable) self.new)) }
-        ensures err { OnErr result (state_of (λ b. ⟦<dyn View as View>⟧ b.vtable) self.new ≡ state_of (λ b. ⟦<dyn View as View>⟧ b.vtable) self.old) }
+        requires good { IsGoodBy ⟦<dyn View as View>⟧ self.old }
+        ensures back { IfOk result (λ answer. PutsBack (state_by ⟦<dyn View as View>⟧ self.old) number answer (state_by ⟦<dyn View as View>⟧ self.new)) }
+        ensures err { OnErr result (state_by ⟦<dyn View as View>⟧ self.new ≡ state_by ⟦<dyn View as View>⟧ self.old) }
         ensures memory { IfErr result (λ stop. stop ≡ Stop.NoMemory) }
-        ensures good { IsGood (λ b. ⟦<dyn View as View>⟧ b.vtable) self.new }
+        ensures good { IsGoodBy ⟦<dyn View as View>⟧ self.new }
     {
         if let Some(place) = &mut self.place {
             let dropped = self.views.drop_view(&mut place.network, number);
@@ -92,8 +92,8 @@ impl Session {
 
     /// Asks the live depth view with the number for the node's level.
     pub(crate) fn ask_level(&self, number: u32, n: Node) -> Reply
-        requires good { IsGood (λ b. ⟦<dyn View as View>⟧ b.vtable) self.now }
-        ensures { AsksLevel (state_of (λ b. ⟦<dyn View as View>⟧ b.vtable) self.now).held (state_of (λ b. ⟦<dyn View as View>⟧ b.vtable) self.now).roll.live number n.0 result }
+        requires good { IsGoodBy ⟦<dyn View as View>⟧ self.now }
+        ensures { AsksLevel (state_by ⟦<dyn View as View>⟧ self.now).held (state_by ⟦<dyn View as View>⟧ self.now).roll.live number n.0 result }
     {
         let Some(place) = &self.place else {
             return Reply::Unmet(Unmet::NoNetwork);
@@ -107,7 +107,7 @@ impl Session {
 
     /// The lines of the network.
     pub(crate) fn print(&self, alloc: Global) -> Result<Reply, Stop>
-        ensures prints { IfOk result (Prints (state_of (λ b. ⟦<dyn View as View>⟧ b.vtable) self.now).held) }
+        ensures prints { IfOk result (Prints (state_by ⟦<dyn View as View>⟧ self.now).held) }
         ensures memory { IfErr result (λ stop. stop ≡ Stop.NoMemory) }
     {
         let Some(place) = &self.place else {
@@ -121,7 +121,7 @@ impl Session {
 
     /// The network's kind, counts and depth.
     pub(crate) fn stats(&self) -> Result<Reply, Stop>
-        ensures counts { IfOk result (Counts (state_of (λ b. ⟦<dyn View as View>⟧ b.vtable) self.now).held) }
+        ensures counts { IfOk result (Counts (state_by ⟦<dyn View as View>⟧ self.now).held) }
         ensures memory { IfErr result (λ stop. stop ≡ Stop.NoMemory) }
     {
         let Some(place) = &self.place else {
@@ -147,11 +147,11 @@ impl Session {
         name: &Name,
         files: &mut F,
     ) -> Result<Reply, Stop>
-        requires good { IsGood (λ b. ⟦<dyn View as View>⟧ b.vtable) self.now }
-        ensures writes { IfOk result (λ answer. Writes format (state_of (λ b. ⟦<dyn View as View>⟧ b.vtable) self.now).held (F.contents files.old) name.now answer (F.contents files.new)) }
+        requires good { IsGoodBy ⟦<dyn View as View>⟧ self.now }
+        ensures writes { IfOk result (λ answer. Writes format (state_by ⟦<dyn View as View>⟧ self.now).held (F.contents files.old) name.now answer (F.contents files.new)) }
         ensures err { OnErr result (F.contents files.new ≡ F.contents files.old) }
         ensures later { F.faults files.old ≤ F.faults files.new }
-        ensures allowed { IsErrOf result Stop.Fault → CanWrite format (state_of (λ b. ⟦<dyn View as View>⟧ b.vtable) self.now).held }
+        ensures allowed { IsErrOf result Stop.Fault → CanWrite format (state_by ⟦<dyn View as View>⟧ self.now).held }
         ensures fault { IsErrOf result Stop.Fault → Rose (F.faults files.old) (F.faults files.new) }
         ensures last { IsErrOf result Stop.Fault → F.last files.new ≡ Some (call_of Store name.now) }
     {

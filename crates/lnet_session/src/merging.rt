@@ -13,7 +13,7 @@ ghost use Rattle.lnet_replies.specs.Texts.{bits_word};
 ghost use Rattle.lnet_session.specs.Effects.{Merges, Simulates};
 ghost use Rattle.lnet_session.specs.Made.{IsSound};
 ghost use Rattle.lnet_session.specs.Merging.{MergesIn, StandsInTheWay, bit_named};
-ghost use Rattle.lnet_session.specs.Sessions.{IsGood, state_of};
+ghost use Rattle.lnet_session.specs.Sessions.{IsGoodBy, state_by};
 
 use crate::session::{Session, Stop};
 use lnet_any::AnyNet;
@@ -144,7 +144,7 @@ fn merge_in(alloc: Global, net: &mut AnyNet, n: Node, s: Signal) -> Result<Reply
 impl Session {
     /// Evaluates the outputs where the inputs have the values that the word tells.
     pub(crate) fn simulate(&self, alloc: Global, word: &Name) -> Result<Reply, Stop>
-        ensures simulates { IfOk result (Simulates (state_of (λ b. ⟦<dyn View as View>⟧ b.vtable) self.now).held word.now) }
+        ensures simulates { IfOk result (Simulates (state_by ⟦<dyn View as View>⟧ self.now).held word.now) }
         ensures memory { IfErr result (λ stop. stop ≡ Stop.NoMemory) }
     {
         let Some(place) = &self.place else {
@@ -163,11 +163,11 @@ impl Session {
 
     /// Lets the signal take the gate's place in the network, where both compute one function.
     pub(crate) fn merge(&mut self, alloc: Global, n: Node, s: Signal) -> Result<Reply, Stop>
-        requires good { IsGood (λ b. ⟦<dyn View as View>⟧ b.vtable) self.old }
-        ensures merges { IfOk result (λ answer. Merges (state_of (λ b. ⟦<dyn View as View>⟧ b.vtable) self.old) (state_of (λ b. ⟦<dyn View as View>⟧ b.vtable) self.old).held n.0 s answer (state_of (λ b. ⟦<dyn View as View>⟧ b.vtable) self.new)) }
-        ensures err { OnErr result (state_of (λ b. ⟦<dyn View as View>⟧ b.vtable) self.new ≡ state_of (λ b. ⟦<dyn View as View>⟧ b.vtable) self.old) }
+        requires good { IsGoodBy ⟦<dyn View as View>⟧ self.old }
+        ensures merges { IfOk result (λ answer. Merges (state_by ⟦<dyn View as View>⟧ self.old) (state_by ⟦<dyn View as View>⟧ self.old).held n.0 s answer (state_by ⟦<dyn View as View>⟧ self.new)) }
+        ensures err { OnErr result (state_by ⟦<dyn View as View>⟧ self.new ≡ state_by ⟦<dyn View as View>⟧ self.old) }
         ensures memory { IfErr result (λ stop. stop ≡ Stop.NoMemory) }
-        ensures good { IsGood (λ b. ⟦<dyn View as View>⟧ b.vtable) self.new }
+        ensures good { IsGoodBy ⟦<dyn View as View>⟧ self.new }
     {
         if let Some(place) = &mut self.place {
             let merged = merge_in(alloc, &mut place.network, n, s);

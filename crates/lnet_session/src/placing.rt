@@ -8,7 +8,7 @@ ghost use Rattle.lnet_edge.specs.declared.outside.Direction.TheVariants.{Fetch};
 ghost use Rattle.lnet_generate.specs.Drawing.{generated};
 ghost use Rattle.lnet_session.specs.Effects.{Converts, Generates, Holds, Places, Reads};
 ghost use Rattle.lnet_session.specs.Formats.{IsMalformed, MeansIn};
-ghost use Rattle.lnet_session.specs.Sessions.{IsGood, state_of};
+ghost use Rattle.lnet_session.specs.Sessions.{IsGoodBy, state_by};
 
 use crate::circuits::{build, export};
 use crate::session::{Session, Stop};
@@ -36,11 +36,11 @@ fn circuit_of(alloc: Global, format: ReadFormat, bytes: &[u8]) -> Result<Circuit
 impl Session {
     /// Builds the network of the circuit in this kind, and puts it in place.
     fn place_circuit(&mut self, alloc: Global, kind: Kind, circuit: &Circuit) -> Result<Reply, Stop>
-        requires good { IsGood (λ b. ⟦<dyn View as View>⟧ b.vtable) self.old }
-        ensures places { IfOk result (λ answer. Places (state_of (λ b. ⟦<dyn View as View>⟧ b.vtable) self.old) kind circuit.now answer (state_of (λ b. ⟦<dyn View as View>⟧ b.vtable) self.new)) }
-        ensures err { OnErr result (state_of (λ b. ⟦<dyn View as View>⟧ b.vtable) self.new ≡ state_of (λ b. ⟦<dyn View as View>⟧ b.vtable) self.old) }
+        requires good { IsGoodBy ⟦<dyn View as View>⟧ self.old }
+        ensures places { IfOk result (λ answer. Places (state_by ⟦<dyn View as View>⟧ self.old) kind circuit.now answer (state_by ⟦<dyn View as View>⟧ self.new)) }
+        ensures err { OnErr result (state_by ⟦<dyn View as View>⟧ self.new ≡ state_by ⟦<dyn View as View>⟧ self.old) }
         ensures memory { IfErr result (λ stop. stop ≡ Stop.NoMemory) }
-        ensures good { IsGood (λ b. ⟦<dyn View as View>⟧ b.vtable) self.new }
+        ensures good { IsGoodBy ⟦<dyn View as View>⟧ self.new }
     {
         match build(alloc, kind, circuit) {
             Ok((network, names)) => self.put_in_place(network, names),
@@ -58,11 +58,11 @@ impl Session {
         bytes: &[u8],
     ) -> Result<Reply, Stop>
         requires short { length bytes.now ≤ file_limit }
-        requires good { IsGood (λ b. ⟦<dyn View as View>⟧ b.vtable) self.old }
-        ensures reads { IfOk result (λ answer. (source : Option CircuitValue) × Reads (state_of (λ b. ⟦<dyn View as View>⟧ b.vtable) self.old) format kind bytes.now answer source (state_of (λ b. ⟦<dyn View as View>⟧ b.vtable) self.new)) }
-        ensures err { OnErr result (state_of (λ b. ⟦<dyn View as View>⟧ b.vtable) self.new ≡ state_of (λ b. ⟦<dyn View as View>⟧ b.vtable) self.old) }
+        requires good { IsGoodBy ⟦<dyn View as View>⟧ self.old }
+        ensures reads { IfOk result (λ answer. (source : Option CircuitValue) × Reads (state_by ⟦<dyn View as View>⟧ self.old) format kind bytes.now answer source (state_by ⟦<dyn View as View>⟧ self.new)) }
+        ensures err { OnErr result (state_by ⟦<dyn View as View>⟧ self.new ≡ state_by ⟦<dyn View as View>⟧ self.old) }
         ensures memory { IfErr result (λ stop. stop ≡ Stop.NoMemory) }
-        ensures good { IsGood (λ b. ⟦<dyn View as View>⟧ b.vtable) self.new }
+        ensures good { IsGoodBy ⟦<dyn View as View>⟧ self.new }
     {
         match circuit_of(alloc, format, bytes) {
             Ok(circuit) => self.place_circuit(alloc, kind, &circuit),
@@ -86,11 +86,11 @@ impl Session {
         requires inputs { (1 ≤ inputs) × (inputs ≤ 4096) }
         requires gates { gates ≤ 262144 }
         requires outputs { outputs ≤ 4096 }
-        requires good { IsGood (λ b. ⟦<dyn View as View>⟧ b.vtable) self.old }
-        ensures generates { IfOk result (λ answer. (source : Option CircuitValue) × Generates (state_of (λ b. ⟦<dyn View as View>⟧ b.vtable) self.old) kind (generated kind inputs gates outputs start) answer source (state_of (λ b. ⟦<dyn View as View>⟧ b.vtable) self.new)) }
-        ensures err { OnErr result (state_of (λ b. ⟦<dyn View as View>⟧ b.vtable) self.new ≡ state_of (λ b. ⟦<dyn View as View>⟧ b.vtable) self.old) }
+        requires good { IsGoodBy ⟦<dyn View as View>⟧ self.old }
+        ensures generates { IfOk result (λ answer. (source : Option CircuitValue) × Generates (state_by ⟦<dyn View as View>⟧ self.old) kind (generated kind inputs gates outputs start) answer source (state_by ⟦<dyn View as View>⟧ self.new)) }
+        ensures err { OnErr result (state_by ⟦<dyn View as View>⟧ self.new ≡ state_by ⟦<dyn View as View>⟧ self.old) }
         ensures memory { IfErr result (λ stop. stop ≡ Stop.NoMemory) }
-        ensures good { IsGood (λ b. ⟦<dyn View as View>⟧ b.vtable) self.new }
+        ensures good { IsGoodBy ⟦<dyn View as View>⟧ self.new }
     {
         let Ok(circuit) = generate(alloc, kind, inputs, gates, outputs, start) else {
             return Err(Stop::NoMemory);
@@ -100,11 +100,11 @@ impl Session {
 
     /// Puts the network of another kind in place that computes the same.
     pub(crate) fn convert(&mut self, alloc: Global, kind: Kind) -> Result<Reply, Stop>
-        requires good { IsGood (λ b. ⟦<dyn View as View>⟧ b.vtable) self.old }
-        ensures converts { IfOk result (λ answer. Converts (state_of (λ b. ⟦<dyn View as View>⟧ b.vtable) self.old) (state_of (λ b. ⟦<dyn View as View>⟧ b.vtable) self.old).held kind answer (state_of (λ b. ⟦<dyn View as View>⟧ b.vtable) self.new)) }
-        ensures err { OnErr result (state_of (λ b. ⟦<dyn View as View>⟧ b.vtable) self.new ≡ state_of (λ b. ⟦<dyn View as View>⟧ b.vtable) self.old) }
+        requires good { IsGoodBy ⟦<dyn View as View>⟧ self.old }
+        ensures converts { IfOk result (λ answer. Converts (state_by ⟦<dyn View as View>⟧ self.old) (state_by ⟦<dyn View as View>⟧ self.old).held kind answer (state_by ⟦<dyn View as View>⟧ self.new)) }
+        ensures err { OnErr result (state_by ⟦<dyn View as View>⟧ self.new ≡ state_by ⟦<dyn View as View>⟧ self.old) }
         ensures memory { IfErr result (λ stop. stop ≡ Stop.NoMemory) }
-        ensures good { IsGood (λ b. ⟦<dyn View as View>⟧ b.vtable) self.new }
+        ensures good { IsGoodBy ⟦<dyn View as View>⟧ self.new }
     {
         let Some(place) = &self.place else {
             return Ok(Reply::Unmet(Unmet::NoNetwork));
@@ -124,14 +124,14 @@ impl Session {
         kind: Kind,
         files: &mut F,
     ) -> Result<Reply, Stop>
-        requires good { IsGood (λ b. ⟦<dyn View as View>⟧ b.vtable) self.old }
-        ensures reads { IfOk result (λ answer. (bytes : List ℕ) × Holds (F.contents files.old) name.now bytes × ((source : Option CircuitValue) × Reads (state_of (λ b. ⟦<dyn View as View>⟧ b.vtable) self.old) format kind bytes answer source (state_of (λ b. ⟦<dyn View as View>⟧ b.vtable) self.new))) }
+        requires good { IsGoodBy ⟦<dyn View as View>⟧ self.old }
+        ensures reads { IfOk result (λ answer. (bytes : List ℕ) × Holds (F.contents files.old) name.now bytes × ((source : Option CircuitValue) × Reads (state_by ⟦<dyn View as View>⟧ self.old) format kind bytes answer source (state_by ⟦<dyn View as View>⟧ self.new))) }
         ensures contents { F.contents files.new ≡ F.contents files.old }
-        ensures err { OnErr result (state_of (λ b. ⟦<dyn View as View>⟧ b.vtable) self.new ≡ state_of (λ b. ⟦<dyn View as View>⟧ b.vtable) self.old) }
+        ensures err { OnErr result (state_by ⟦<dyn View as View>⟧ self.new ≡ state_by ⟦<dyn View as View>⟧ self.old) }
         ensures later { F.faults files.old ≤ F.faults files.new }
         ensures fault { IsErrOf result Stop.Fault → Rose (F.faults files.old) (F.faults files.new) }
         ensures last { IsErrOf result Stop.Fault → F.last files.new ≡ Some (call_of Fetch name.now) }
-        ensures good { IsGood (λ b. ⟦<dyn View as View>⟧ b.vtable) self.new }
+        ensures good { IsGoodBy ⟦<dyn View as View>⟧ self.new }
     {
         match files.fetch(alloc, name.as_str()) {
             Ok(bytes) => self.load(alloc, format, kind, &bytes),

@@ -2,7 +2,7 @@
 
 ghost use Rattle.std.specs.Prelude.{◌≤◌, ◌<◌, ◌+◌, ◌-◌, ◌^◌, All, Option, length};
 ghost use Rattle.lnet_edge.specs.Circuits.{CircuitValue};
-ghost use Rattle.lnet_session.specs.Sessions.{IsGood, state_of};
+ghost use Rattle.lnet_session.specs.Sessions.{IsGoodBy, state_by};
 ghost use Rattle.lnet_session.specs.Steps.{IsCommand, World};
 ghost use Rattle.lnet_session.specs.Runs.{RunsTo};
 
@@ -36,12 +36,12 @@ pub fn run_commands<F: Files, S: Sink>(
 ) -> RunEnd
     requires few { length commands.now ≤ 1048576 }
     requires commands { All IsCommand commands.now }
-    requires next { (state_of (λ b. ⟦<dyn View as View>⟧ b.vtable) session.old).roll.next + length commands.now < 2 ^ 32 - 1 }
-    requires good { IsGood (λ b. ⟦<dyn View as View>⟧ b.vtable) session.old }
-    ensures good { IsGood (λ b. ⟦<dyn View as View>⟧ b.vtable) session.new }
+    requires next { (state_by ⟦<dyn View as View>⟧ session.old).roll.next + length commands.now < 2 ^ 32 - 1 }
+    requires good { IsGoodBy ⟦<dyn View as View>⟧ session.old }
+    ensures good { IsGoodBy ⟦<dyn View as View>⟧ session.new }
     ensures runs { (start : Option CircuitValue) → (origin : Option CircuitValue) × RunsTo commands.now result start
-        (record { state = state_of (λ b. ⟦<dyn View as View>⟧ b.vtable) session.old; contents = F.contents files.old; written = S.written out.old; file_faults = F.faults files.old; last = F.last files.old; sink_faults = S.faults out.old })
-        (record { state = state_of (λ b. ⟦<dyn View as View>⟧ b.vtable) session.new; contents = F.contents files.new; written = S.written out.new; file_faults = F.faults files.new; last = F.last files.new; sink_faults = S.faults out.new }) origin }
+        (record { state = state_by ⟦<dyn View as View>⟧ session.old; contents = F.contents files.old; written = S.written out.old; file_faults = F.faults files.old; last = F.last files.old; sink_faults = S.faults out.old })
+        (record { state = state_by ⟦<dyn View as View>⟧ session.new; contents = F.contents files.new; written = S.written out.new; file_faults = F.faults files.new; last = F.last files.new; sink_faults = S.faults out.new }) origin }
 {
     let mut unmet = false;
     for (index, command) in commands.iter().enumerate() {

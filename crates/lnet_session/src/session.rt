@@ -8,7 +8,7 @@ ghost use Rattle.std.specs.List.{count_by};
 ghost use Rattle.lnet_subscriptions.specs.Rolls.{all_shelved, same_kind};
 ghost use Rattle.lnet_session.specs.Effects.{SaysCounts};
 ghost use Rattle.lnet_session.specs.Made.{IsSound};
-ghost use Rattle.lnet_session.specs.Sessions.{IsAtRest, IsGood, FitNames, state_of};
+ghost use Rattle.lnet_session.specs.Sessions.{IsAtRestBy, IsGoodBy, FitNames, state_by};
 
 use lnet_any::AnyNet;
 use lnet_model::{ViewKind, ViewSpec};
@@ -52,8 +52,8 @@ impl Session {
     /// A session in which nothing is in place, with the kit's views on the shelf. It takes no memory.
     pub fn new(alloc: Global, kit: Kit) -> Session
         requires detached { AreDetached spec_of kit.views.items }
-        ensures state { state_of (λ b. ⟦<dyn View as View>⟧ b.vtable) result ≡ record { held = None; roll = record { live = []; next = 1; shelf = map kind_of kit.views.items } } }
-        ensures good { IsGood (λ b. ⟦<dyn View as View>⟧ b.vtable) result }
+        ensures state { state_by ⟦<dyn View as View>⟧ result ≡ record { held = None; roll = record { live = []; next = 1; shelf = map kind_of kit.views.items } } }
+        ensures good { IsGoodBy ⟦<dyn View as View>⟧ result }
     {
         Session {
             place: None,
@@ -68,7 +68,7 @@ impl Session {
 
     /// The network, None exactly where none is in place. Constant time.
     pub fn network(&self) -> Option<&AnyNet>
-        ensures { option_map (λ n. network_in n.now) result ≡ option_map (λ h. h.network) (state_of (λ b. ⟦<dyn View as View>⟧ b.vtable) self.now).held }
+        ensures { option_map (λ n. network_in n.now) result ≡ option_map (λ h. h.network) (state_by ⟦<dyn View as View>⟧ self.now).held }
     {
         match &self.place {
             Some(place) => Some(&place.network),
@@ -78,7 +78,7 @@ impl Session {
 
     /// The names of the network's inputs and outputs, None exactly where no network is in place. Constant time.
     pub fn names(&self) -> Option<&Names>
-        ensures { option_map (λ n. n.now) result ≡ option_map (λ h. h.names) (state_of (λ b. ⟦<dyn View as View>⟧ b.vtable) self.now).held }
+        ensures { option_map (λ n. n.now) result ≡ option_map (λ h. h.names) (state_by ⟦<dyn View as View>⟧ self.now).held }
     {
         match &self.place {
             Some(place) => Some(&place.names),
@@ -88,32 +88,32 @@ impl Session {
 
     /// The number that the next view gets. Constant time.
     pub fn next_view(&self) -> u32
-        ensures { result ≡ (state_of (λ b. ⟦<dyn View as View>⟧ b.vtable) self.now).roll.next }
+        ensures { result ≡ (state_by ⟦<dyn View as View>⟧ self.now).roll.next }
     {
         self.views.next()
     }
 
     /// The live views, each by its number and spec, ascending. Constant time.
     pub fn live(&self) -> &[(u32, ViewSpec)]
-        ensures { result.now ≡ (state_of (λ b. ⟦<dyn View as View>⟧ b.vtable) self.now).roll.live }
+        ensures { result.now ≡ (state_by ⟦<dyn View as View>⟧ self.now).roll.live }
     {
         self.views.live()
     }
 
     /// How many views of the kind are on the shelf. Linear in the shelf.
     pub fn shelf_len(&self, kind: ViewKind) -> usize
-        ensures { result ≡ count_by (same_kind kind) (state_of (λ b. ⟦<dyn View as View>⟧ b.vtable) self.now).roll.shelf }
+        ensures { result ≡ count_by (same_kind kind) (state_by ⟦<dyn View as View>⟧ self.now).roll.shelf }
     {
         self.views.shelf_len(kind)
     }
 
     /// Puts all live views on the shelf.
     fn shelve_views(&mut self) -> Result<(), Stop>
-        requires good { IsGood (λ b. ⟦<dyn View as View>⟧ b.vtable) self.old }
-        ensures roll { OnOk result ((state_of (λ b. ⟦<dyn View as View>⟧ b.vtable) self.new).roll ≡ all_shelved (state_of (λ b. ⟦<dyn View as View>⟧ b.vtable) self.old).roll) }
-        ensures rest { OnOk result (IsAtRest (λ b. ⟦<dyn View as View>⟧ b.vtable) self.new) }
-        ensures err { OnErr result (state_of (λ b. ⟦<dyn View as View>⟧ b.vtable) self.new ≡ state_of (λ b. ⟦<dyn View as View>⟧ b.vtable) self.old) }
-        ensures good { OnErr result (IsGood (λ b. ⟦<dyn View as View>⟧ b.vtable) self.new) }
+        requires good { IsGoodBy ⟦<dyn View as View>⟧ self.old }
+        ensures roll { OnOk result ((state_by ⟦<dyn View as View>⟧ self.new).roll ≡ all_shelved (state_by ⟦<dyn View as View>⟧ self.old).roll) }
+        ensures rest { OnOk result (IsAtRestBy ⟦<dyn View as View>⟧ self.new) }
+        ensures err { OnErr result (state_by ⟦<dyn View as View>⟧ self.new ≡ state_by ⟦<dyn View as View>⟧ self.old) }
+        ensures good { OnErr result (IsGoodBy ⟦<dyn View as View>⟧ self.new) }
         ensures memory { IfErr result (λ stop. stop ≡ Stop.NoMemory) }
     {
         if let Some(place) = &mut self.place {
@@ -128,16 +128,16 @@ impl Session {
 
     /// Puts a network without views in place, and all live views on the shelf; says its kind and counts.
     pub(crate) fn put_in_place(&mut self, network: AnyNet, names: Names) -> Result<Reply, Stop>
-        requires good { IsGood (λ b. ⟦<dyn View as View>⟧ b.vtable) self.old }
+        requires good { IsGoodBy ⟦<dyn View as View>⟧ self.old }
         requires none { views_in network ≡ [] }
         requires sound { IsSound (form_of (network_in network).kind) (network_in network) }
         requires names { FitNames (network_in network) names }
-        ensures held { OnOk result ((state_of (λ b. ⟦<dyn View as View>⟧ b.vtable) self.new).held ≡ Some (record { network = network_in network; names = names })) }
-        ensures roll { OnOk result ((state_of (λ b. ⟦<dyn View as View>⟧ b.vtable) self.new).roll ≡ all_shelved (state_of (λ b. ⟦<dyn View as View>⟧ b.vtable) self.old).roll) }
+        ensures held { OnOk result ((state_by ⟦<dyn View as View>⟧ self.new).held ≡ Some (record { network = network_in network; names = names })) }
+        ensures roll { OnOk result ((state_by ⟦<dyn View as View>⟧ self.new).roll ≡ all_shelved (state_by ⟦<dyn View as View>⟧ self.old).roll) }
         ensures reply { IfOk result (SaysCounts (network_in network)) }
-        ensures err { OnErr result (state_of (λ b. ⟦<dyn View as View>⟧ b.vtable) self.new ≡ state_of (λ b. ⟦<dyn View as View>⟧ b.vtable) self.old) }
+        ensures err { OnErr result (state_by ⟦<dyn View as View>⟧ self.new ≡ state_by ⟦<dyn View as View>⟧ self.old) }
         ensures memory { IfErr result (λ stop. stop ≡ Stop.NoMemory) }
-        ensures good { IsGood (λ b. ⟦<dyn View as View>⟧ b.vtable) self.new }
+        ensures good { IsGoodBy ⟦<dyn View as View>⟧ self.new }
     {
         match self.shelve_views() {
             Ok(()) => {

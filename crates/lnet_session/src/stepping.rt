@@ -4,7 +4,7 @@ ghost use Rattle.std.specs.Prelude.{◌≡◌, ◌<◌, ◌≤◌, ◌+◌, ◌-
 ghost use Rattle.lnet_edge.specs.Circuits.{CircuitValue};
 ghost use Rattle.lnet_edge.specs.Outside.{Rose};
 ghost use Rattle.lnet_session.specs.Effects.{Effect};
-ghost use Rattle.lnet_session.specs.Sessions.{IsGood, state_of};
+ghost use Rattle.lnet_session.specs.Sessions.{IsGoodBy, state_by};
 ghost use Rattle.lnet_session.specs.Steps.{IsCommand, Steps, World, KeepsOutputs, MakesCall, end_of, own_call};
 
 use crate::session::{Session, Stop};
@@ -37,16 +37,16 @@ impl Session {
         files: &mut F,
     ) -> Result<Reply, Stop>
         requires command { IsCommand command.now }
-        requires next { (state_of (λ b. ⟦<dyn View as View>⟧ b.vtable) self.old).roll.next < 2 ^ 32 - 1 }
-        requires good { IsGood (λ b. ⟦<dyn View as View>⟧ b.vtable) self.old }
-        ensures effect { IfOk result (λ answer. (source : Option CircuitValue) × Effect (state_of (λ b. ⟦<dyn View as View>⟧ b.vtable) self.old) (F.contents files.old) command.now answer source (state_of (λ b. ⟦<dyn View as View>⟧ b.vtable) self.new) (F.contents files.new)) }
-        ensures state { OnErr result (state_of (λ b. ⟦<dyn View as View>⟧ b.vtable) self.new ≡ state_of (λ b. ⟦<dyn View as View>⟧ b.vtable) self.old) }
+        requires next { (state_by ⟦<dyn View as View>⟧ self.old).roll.next < 2 ^ 32 - 1 }
+        requires good { IsGoodBy ⟦<dyn View as View>⟧ self.old }
+        ensures effect { IfOk result (λ answer. (source : Option CircuitValue) × Effect (state_by ⟦<dyn View as View>⟧ self.old) (F.contents files.old) command.now answer source (state_by ⟦<dyn View as View>⟧ self.new) (F.contents files.new)) }
+        ensures state { OnErr result (state_by ⟦<dyn View as View>⟧ self.new ≡ state_by ⟦<dyn View as View>⟧ self.old) }
         ensures contents { OnErr result (F.contents files.new ≡ F.contents files.old) }
         ensures later { F.faults files.old ≤ F.faults files.new }
-        ensures allowed { IsErrOf result Stop.Fault → MakesCall command.now (state_of (λ b. ⟦<dyn View as View>⟧ b.vtable) self.old) }
+        ensures allowed { IsErrOf result Stop.Fault → MakesCall command.now (state_by ⟦<dyn View as View>⟧ self.old) }
         ensures fault { IsErrOf result Stop.Fault → Rose (F.faults files.old) (F.faults files.new) }
         ensures last { IsErrOf result Stop.Fault → F.last files.new ≡ own_call command.now }
-        ensures good { IsGood (λ b. ⟦<dyn View as View>⟧ b.vtable) self.new }
+        ensures good { IsGoodBy ⟦<dyn View as View>⟧ self.new }
     {
         match command {
             Command::Read(format, name, kind) => {
@@ -73,6 +73,7 @@ impl Session {
     /// After `Unmet` the session and the files' contents are as before. After `Fault` of a fetch or a store they are
     /// as before too; after `Fault` of the put the command's effect stands. After `NoMemory` they are as before, or
     /// the command's whole effect stands; nothing was put.
+    #[tactic(auto, using(crate::proofs::Keeping::effect_keeps, crate::proofs::Keeping::same_keeps, crate::proofs::Numbers::effect_next))]
     pub fn step<F: Files, S: Sink>(
         &mut self,
         alloc: Global,
@@ -82,16 +83,16 @@ impl Session {
         out: &mut S,
     ) -> StepEnd
         requires command { IsCommand command.now }
-        requires next { (state_of (λ b. ⟦<dyn View as View>⟧ b.vtable) self.old).roll.next < 2 ^ 32 - 1 }
-        requires good { IsGood (λ b. ⟦<dyn View as View>⟧ b.vtable) self.old }
+        requires next { (state_by ⟦<dyn View as View>⟧ self.old).roll.next < 2 ^ 32 - 1 }
+        requires good { IsGoodBy ⟦<dyn View as View>⟧ self.old }
         ensures step { Steps command.now index result
-            (record { state = state_of (λ b. ⟦<dyn View as View>⟧ b.vtable) self.old; contents = F.contents files.old; written = S.written out.old; file_faults = F.faults files.old; last = F.last files.old; sink_faults = S.faults out.old })
-            (record { state = state_of (λ b. ⟦<dyn View as View>⟧ b.vtable) self.new; contents = F.contents files.new; written = S.written out.new; file_faults = F.faults files.new; last = F.last files.new; sink_faults = S.faults out.new }) }
+            (record { state = state_by ⟦<dyn View as View>⟧ self.old; contents = F.contents files.old; written = S.written out.old; file_faults = F.faults files.old; last = F.last files.old; sink_faults = S.faults out.old })
+            (record { state = state_by ⟦<dyn View as View>⟧ self.new; contents = F.contents files.new; written = S.written out.new; file_faults = F.faults files.new; last = F.last files.new; sink_faults = S.faults out.new }) }
         ensures file_faults { F.faults files.old ≤ F.faults files.new }
         ensures sink_faults { S.faults out.old ≤ S.faults out.new }
-        ensures kept { KeepsOutputs command.now (state_of (λ b. ⟦<dyn View as View>⟧ b.vtable) self.old) (state_of (λ b. ⟦<dyn View as View>⟧ b.vtable) self.new) }
-        ensures numbers { (state_of (λ b. ⟦<dyn View as View>⟧ b.vtable) self.new).roll.next ≤ (state_of (λ b. ⟦<dyn View as View>⟧ b.vtable) self.old).roll.next + 1 }
-        ensures good { IsGood (λ b. ⟦<dyn View as View>⟧ b.vtable) self.new }
+        ensures kept { KeepsOutputs command.now (state_by ⟦<dyn View as View>⟧ self.old) (state_by ⟦<dyn View as View>⟧ self.new) }
+        ensures numbers { (state_by ⟦<dyn View as View>⟧ self.new).roll.next ≤ (state_by ⟦<dyn View as View>⟧ self.old).roll.next + 1 }
+        ensures good { IsGoodBy ⟦<dyn View as View>⟧ self.new }
     {
         let answer = match self.effect(alloc, command, files) {
             Ok(answer) => answer,

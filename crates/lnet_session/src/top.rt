@@ -4,7 +4,7 @@ ghost use Rattle.std.specs.Prelude.{◌≡◌, ◌≤◌, ◌⊎◌, [], List, �
 ghost use Rattle.lnet_edge.specs.Outside.{Rose};
 ghost use Rattle.lnet_edge.specs.Circuits.{CircuitValue};
 ghost use Rattle.lnet_subscriptions.specs.Kept.{AreDetached};
-ghost use Rattle.lnet_session.specs.Sessions.{IsGood, state_of};
+ghost use Rattle.lnet_session.specs.Sessions.{IsGoodBy, state_by};
 ghost use Rattle.lnet_session.specs.Steps.{World, Grows, GrowsByPart};
 ghost use Rattle.lnet_session.specs.Ends.{EndsAs, IsOutcome, IsRefusedSomehow, IsFaulty, IsUnhindered, IsOrMemory, script_of, refusal_text, status_number, RefusesAs};
 
@@ -94,12 +94,12 @@ fn run_words<F: Files, S: Sink>(
     files: &mut F,
     out: &mut S,
 ) -> Ending
-    requires next { (state_of (λ b. ⟦<dyn View as View>⟧ b.vtable) session.old).roll.next ≤ 1 }
-    requires good { IsGood (λ b. ⟦<dyn View as View>⟧ b.vtable) session.old }
-    ensures good { IsGood (λ b. ⟦<dyn View as View>⟧ b.vtable) session.new }
+    requires next { (state_by ⟦<dyn View as View>⟧ session.old).roll.next ≤ 1 }
+    requires good { IsGoodBy ⟦<dyn View as View>⟧ session.old }
+    ensures good { IsGoodBy ⟦<dyn View as View>⟧ session.new }
     ensures ends { (origin : Option CircuitValue) × EndsAs (map string_bytes words.now) result
-        (record { state = state_of (λ b. ⟦<dyn View as View>⟧ b.vtable) session.old; contents = F.contents files.old; written = S.written out.old; file_faults = F.faults files.old; last = F.last files.old; sink_faults = S.faults out.old })
-        (record { state = state_of (λ b. ⟦<dyn View as View>⟧ b.vtable) session.new; contents = F.contents files.new; written = S.written out.new; file_faults = F.faults files.new; last = F.last files.new; sink_faults = S.faults out.new }) origin }
+        (record { state = state_by ⟦<dyn View as View>⟧ session.old; contents = F.contents files.old; written = S.written out.old; file_faults = F.faults files.old; last = F.last files.old; sink_faults = S.faults out.old })
+        (record { state = state_by ⟦<dyn View as View>⟧ session.new; contents = F.contents files.new; written = S.written out.new; file_faults = F.faults files.new; last = F.last files.new; sink_faults = S.faults out.new }) origin }
 {
     let Some(script) = script_word(words) else {
         return refuse(alloc, Refusal::Words, out);
@@ -142,20 +142,20 @@ pub fn run<F: Files, S: Sink>(
     // in the circuit last read or generated.
     ensures outcome { IsOutcome (map string_bytes words.now) result.status
         (record { state = record { held = None; roll = record { live = []; next = 1; shelf = map kind_of kit.views.items } }; contents = F.contents files.old; written = S.written out.old; file_faults = F.faults files.old; last = F.last files.old; sink_faults = S.faults out.old })
-        (record { state = state_of (λ b. ⟦<dyn View as View>⟧ b.vtable) result.session; contents = F.contents files.new; written = S.written out.new; file_faults = F.faults files.new; last = F.last files.new; sink_faults = S.faults out.new }) }
+        (record { state = state_by ⟦<dyn View as View>⟧ result.session; contents = F.contents files.new; written = S.written out.new; file_faults = F.faults files.new; last = F.last files.new; sink_faults = S.faults out.new }) }
 
     // The network that it leaves has no cycle, and each live view answers as computed from it.
-    ensures good { IsGood (λ b. ⟦<dyn View as View>⟧ b.vtable) result.session }
+    ensures good { IsGoodBy ⟦<dyn View as View>⟧ result.session }
 
     // When a refusal, a fault and success come.
     ensures refused { result.status ≡ 2 → IsRefusedSomehow (map string_bytes words.now) }
     ensures refuses { IsRefusedSomehow (map string_bytes words.now) → (result.status ≡ 2) ⊎ IsOrMemory 3 result.status }
     ensures fault { result.status ≡ 3 → IsFaulty (map string_bytes words.now)
         (record { state = record { held = None; roll = record { live = []; next = 1; shelf = map kind_of kit.views.items } }; contents = F.contents files.old; written = S.written out.old; file_faults = F.faults files.old; last = F.last files.old; sink_faults = S.faults out.old })
-        (record { state = state_of (λ b. ⟦<dyn View as View>⟧ b.vtable) result.session; contents = F.contents files.new; written = S.written out.new; file_faults = F.faults files.new; last = F.last files.new; sink_faults = S.faults out.new }) }
+        (record { state = state_by ⟦<dyn View as View>⟧ result.session; contents = F.contents files.new; written = S.written out.new; file_faults = F.faults files.new; last = F.last files.new; sink_faults = S.faults out.new }) }
     ensures complete { IsUnhindered (map string_bytes words.now)
         (record { state = record { held = None; roll = record { live = []; next = 1; shelf = map kind_of kit.views.items } }; contents = F.contents files.old; written = S.written out.old; file_faults = F.faults files.old; last = F.last files.old; sink_faults = S.faults out.old })
-        (record { state = state_of (λ b. ⟦<dyn View as View>⟧ b.vtable) result.session; contents = F.contents files.new; written = S.written out.new; file_faults = F.faults files.new; last = F.last files.new; sink_faults = S.faults out.new }) → IsOrMemory 0 result.status }
+        (record { state = state_by ⟦<dyn View as View>⟧ result.session; contents = F.contents files.new; written = S.written out.new; file_faults = F.faults files.new; last = F.last files.new; sink_faults = S.faults out.new }) → IsOrMemory 0 result.status }
 {
     let mut session = Session::new(alloc, kit);
     let ending = run_words(alloc, words, &mut session, files, out);

@@ -1,37 +1,62 @@
 //! A script that is read, and its commands run one by one.
 
-ghost use Rattle.lnet_session.specs.Sessions.{IsGood};
+ghost use Rattle.lnet_session.specs.Sessions.{IsGoodBy};
 
 use lnet_edge::{MemoryFiles, MemorySink};
-use lnet_model::ViewSpec;
+use lnet_model::{ViewKind, ViewSpec};
 use lnet_replies::Unmet;
 use lnet_script::{Command, parse_script};
 use lnet_session::{Kit, Session, StepEnd};
 use lnet_store::View;
 use lnet_views::DepthView;
 use std::alloc::Global;
+use std::process::Abort;
 use std::test::Fail;
 
-/// Runs one command of the script language.
-fn stepped(
-    alloc: Global,
-    session: &mut Session,
-    command: &Command,
-    files: &mut MemoryFiles,
-    out: &mut MemorySink,
-) -> Result<StepEnd, Fail>
-    requires good { IsGood (λ b. ⟦<dyn View as View>⟧ b.vtable) session.old }
-    ensures good { IsGood (λ b. ⟦<dyn View as View>⟧ b.vtable) session.new }
+/// A session with the files and the sink that its commands run over.
+struct Running {
+    session: Session,
+    files: MemoryFiles,
+    out: MemorySink,
+}
+
+/// Runs one command of the script language, which has to end so.
+fn step_to(alloc: Global, run: &mut Running, command: &Command, end: StepEnd) -> Result<(), Fail>
+    requires good { IsGoodBy ⟦<dyn View as View>⟧ run.old.session }
+    ensures good { IsGoodBy ⟦<dyn View as View>⟧ run.new.session }
 {
-    if session.next_view() > 9 {
+    if run.session.next_view() > 9 {
         return Err("many views".into());
     }
     match command {
         Command::View(ViewSpec::Fanout) => Err("no words".into()),
         Command::View(ViewSpec::Cuts(_)) => Err("no words".into()),
         Command::Gen(..) => Err("counts that are not known".into()),
-        _ => Ok(session.step(alloc, command, 1, files, out)),
+        _
+            if run
+                .session
+                .step(alloc, command, 1, &mut run.files, &mut run.out)
+                == end => Ok(()),
+        _ => Err("another end".into()),
     }
+}
+
+/// Compares what stands once the commands have run.
+fn check_left<R: Abort>(rt: &R, run: &Running) -> Result<(), Fail> {
+    let session = &run.session;
+    assert_eq!(rt; session.next_view(), 2);
+    assert_eq!(rt;
+        (session.live().len(), session.shelf_len(ViewKind::Depth)),
+        (1, 0)
+    );
+    let network = session.network().ok_or("no network")?;
+    assert_eq!(rt; network.gate_count(), 1);
+    let names = session.names().ok_or("no names")?;
+    assert_eq!(rt;
+        (names.input_name(0), names.input_name(1)),
+        (None, Some("right"))
+    );
+    Ok(())
 }
 
 /// A write without a network, a read, a view, a write, and a fetch of a file that isn't there.
@@ -39,8 +64,7 @@ fn stepped(
 fn steps(rt: HostRuntime) -> Result<(), Fail> {
     let alloc = rt.alloc();
     let mut files = MemoryFiles::new(alloc, Vec::new(alloc));
-    let mut out = MemorySink::new(alloc, Vec::new(alloc));
-    files.set("and.aag", b"aag 3 2 0 1 1\n2\n4\n7\n6 2 4\n")?;
+    files.set("and.aag", b"aag 3 2 0 1 1\n2\n4\n7\n6 2 4\ni1 right\n")?;
     let script = b"write aag x; read aiger and.aag aig; view depth; write aag x; read aiger y aig";
     let commands = parse_script(alloc, script).ok().ok_or("a script")?;
     let [first, second, third, fourth, fifth] = &*commands else {
@@ -49,37 +73,24 @@ fn steps(rt: HostRuntime) -> Result<(), Fail> {
     let levels: Box<dyn View> = Box::new(alloc, DepthView::new(alloc)?)?;
     let mut views = Vec::new(alloc);
     views.push(levels)?;
-    let mut session = Session::new(alloc, Kit { views });
+    let session = Session::new(alloc, Kit { views });
     assert!(rt; session.network().is_none() && session.names().is_none());
+    assert_eq!(rt; session.shelf_len(ViewKind::Depth), 1);
+    let out = MemorySink::new(alloc, Vec::new(alloc));
+    let mut run = Running {
+        session,
+        files,
+        out,
+    };
+    step_to(alloc, &mut run, first, StepEnd::Unmet(Unmet::NoNetwork))?;
+    step_to(alloc, &mut run, second, StepEnd::Met)?;
+    step_to(alloc, &mut run, third, StepEnd::Met)?;
+    step_to(alloc, &mut run, fourth, StepEnd::Met)?;
+    step_to(alloc, &mut run, fifth, StepEnd::Fault)?;
+    check_left(&rt, &run)?;
     assert_eq!(rt;
-        stepped(alloc, &mut session, first, &mut files, &mut out)?,
-        StepEnd::Unmet(Unmet::NoNetwork)
-    );
-    assert_eq!(rt;
-        stepped(alloc, &mut session, second, &mut files, &mut out)?,
-        StepEnd::Met
-    );
-    assert_eq!(rt;
-        stepped(alloc, &mut session, third, &mut files, &mut out)?,
-        StepEnd::Met
-    );
-    assert_eq!(rt;
-        stepped(alloc, &mut session, fourth, &mut files, &mut out)?,
-        StepEnd::Met
-    );
-    assert_eq!(rt;
-        stepped(alloc, &mut session, fifth, &mut files, &mut out)?,
-        StepEnd::Fault
-    );
-    assert_eq!(rt; session.next_view(), 2);
-    assert_eq!(rt; session.live().len(), 1);
-    match session.network() {
-        Some(network) => assert_eq!(rt; network.gate_count(), 1),
-        None => return Err("no network".into()),
-    }
-    assert_eq!(rt;
-        files.file("x").ok_or("no file")?,
-        b"aag 3 2 0 1 1\n2\n4\n7\n6 4 2\n".as_slice()
+        run.files.file("x").ok_or("no file")?,
+        b"aag 3 2 0 1 1\n2\n4\n7\n6 4 2\ni1 right\n".as_slice()
     );
     Ok(())
 }

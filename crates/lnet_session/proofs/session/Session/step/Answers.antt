@@ -1,7 +1,5 @@
 use Rattle.std.proofs.Common.{Err, refl, sym, subst, inr, ap, ◌∙◌}
 use Rattle.lnet_session.specs.Steps.{World, Steps}
-use Rattle.lnet_session.proofs.Keeping.{effect-keeps}
-use Rattle.lnet_session.proofs.Numbers.{effect-next}
 use Rattle.lnet_session.proofs.Put.{put_done, put_failed, steps-of}
 use Rattle.lnet_session.specs.Sessions.{state_of}
 use Rattle.lnet_session.specs.declared.stepping.StepEnd.{StepEnd}
@@ -28,27 +26,3 @@ returns-in-Ok-put-clause-step g c =
       text = put_done c.in-Ok-put.field-0 (g.S.Sink.written c.args.out.now) c.as_bytes.result.now _ (g.S.Sink.written c.put.new.self) (c.as_bytes.ensures.value ∙ c.in-Ok-text_of_reply.ensures) c.in-Ok-put.ensures.written;
       end = refl;
     }))
-
-pub returns-in_default-clause-kept : goal.returns-in_default-clause-kept
-returns-in_default-clause-kept g c = effect-keeps c.args.command.now (state_of (λ b. goal.View-dyn g (b.vtable, b.value)) c.args.self.now) (state_of (λ b. goal.View-dyn g (b.vtable, b.value)) c.effect.new.self) (g.F.Files.contents c.args.files.now) (g.F.Files.contents c.effect.new.files) c.in-Ok.answer c.in-Ok.ensures.effect.0 c.in-Ok.ensures.effect.1
-
-pub returns-in_default-clause-numbers : goal.returns-in_default-clause-numbers
-returns-in_default-clause-numbers g c = effect-next c.args.command.now (state_of (λ b. goal.View-dyn g (b.vtable, b.value)) c.args.self.now) (state_of (λ b. goal.View-dyn g (b.vtable, b.value)) c.effect.new.self) (g.F.Files.contents c.args.files.now) (g.F.Files.contents c.effect.new.files) c.in-Ok.answer c.in-Ok.ensures.effect.0 c.in-Ok.ensures.effect.1
-
-pub returns-in-Ok-put-clause-kept : goal.returns-in-Ok-put-clause-kept
-returns-in-Ok-put-clause-kept g c = effect-keeps c.args.command.now (state_of (λ b. goal.View-dyn g (b.vtable, b.value)) c.args.self.now) (state_of (λ b. goal.View-dyn g (b.vtable, b.value)) c.effect.new.self) (g.F.Files.contents c.args.files.now) (g.F.Files.contents c.effect.new.files) c.in-Ok.answer c.in-Ok.ensures.effect.0 c.in-Ok.ensures.effect.1
-
-pub returns-in-Ok-put-clause-numbers : goal.returns-in-Ok-put-clause-numbers
-returns-in-Ok-put-clause-numbers g c = effect-next c.args.command.now (state_of (λ b. goal.View-dyn g (b.vtable, b.value)) c.args.self.now) (state_of (λ b. goal.View-dyn g (b.vtable, b.value)) c.effect.new.self) (g.F.Files.contents c.args.files.now) (g.F.Files.contents c.effect.new.files) c.in-Ok.answer c.in-Ok.ensures.effect.0 c.in-Ok.ensures.effect.1
-
-pub returns-in-Err-Failed-clause-kept : goal.returns-in-Err-Failed-clause-kept
-returns-in-Err-Failed-clause-kept g c = effect-keeps c.args.command.now (state_of (λ b. goal.View-dyn g (b.vtable, b.value)) c.args.self.now) (state_of (λ b. goal.View-dyn g (b.vtable, b.value)) c.effect.new.self) (g.F.Files.contents c.args.files.now) (g.F.Files.contents c.effect.new.files) c.in-Ok.answer c.in-Ok.ensures.effect.0 c.in-Ok.ensures.effect.1
-
-pub returns-in-Err-Failed-clause-numbers : goal.returns-in-Err-Failed-clause-numbers
-returns-in-Err-Failed-clause-numbers g c = effect-next c.args.command.now (state_of (λ b. goal.View-dyn g (b.vtable, b.value)) c.args.self.now) (state_of (λ b. goal.View-dyn g (b.vtable, b.value)) c.effect.new.self) (g.F.Files.contents c.args.files.now) (g.F.Files.contents c.effect.new.files) c.in-Ok.answer c.in-Ok.ensures.effect.0 c.in-Ok.ensures.effect.1
-
-pub returns-clause-kept : goal.returns-clause-kept
-returns-clause-kept g c = effect-keeps c.args.command.now (state_of (λ b. goal.View-dyn g (b.vtable, b.value)) c.args.self.now) (state_of (λ b. goal.View-dyn g (b.vtable, b.value)) c.effect.new.self) (g.F.Files.contents c.args.files.now) (g.F.Files.contents c.effect.new.files) c.in-Ok.answer c.in-Ok.ensures.effect.0 c.in-Ok.ensures.effect.1
-
-pub returns-clause-numbers : goal.returns-clause-numbers
-returns-clause-numbers g c = effect-next c.args.command.now (state_of (λ b. goal.View-dyn g (b.vtable, b.value)) c.args.self.now) (state_of (λ b. goal.View-dyn g (b.vtable, b.value)) c.effect.new.self) (g.F.Files.contents c.args.files.now) (g.F.Files.contents c.effect.new.files) c.in-Ok.answer c.in-Ok.ensures.effect.0 c.in-Ok.ensures.effect.1

@@ -32,12 +32,15 @@ fn step_to(alloc: Global, run: &mut Running, command: &Command, end: StepEnd) ->
         Command::View(ViewSpec::Fanout) => Err("no words".into()),
         Command::View(ViewSpec::Cuts(_)) => Err("no words".into()),
         Command::Gen(..) => Err("counts that are not known".into()),
-        _
-            if run
+        _ => {
+            let found = run
                 .session
-                .step(alloc, command, 1, &mut run.files, &mut run.out)
-                == end => Ok(()),
-        _ => Err("another end".into()),
+                .step(alloc, command, 1, &mut run.files, &mut run.out);
+            if found == end {
+                return Ok(());
+            }
+            Err("another end".into())
+        }
     }
 }
 

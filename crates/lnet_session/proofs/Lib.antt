@@ -1,12 +1,8 @@
 pub mod Merged
 pub mod Long
 pub mod Put
-pub mod Chain
 pub mod Keeping
 pub mod Places
 pub mod Placed
 pub mod Texts
-pub mod Accepted
-pub mod Origins
-pub mod Statuses
 pub mod Numbers

@@ -5,6 +5,3 @@ pub mod Sessions
 pub mod Merging
 pub mod Effects
 pub mod Steps
-pub mod Runs
-pub mod Ends
-pub mod Written

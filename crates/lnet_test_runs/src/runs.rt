@@ -1,7 +1,8 @@
 //! Runs with their expected transcripts, statuses and files.
 
 use lnet_edge::{MemoryFiles, MemorySink};
-use lnet_session::{Kit, run};
+use lnet_run::run;
+use lnet_session::Kit;
 use lnet_store::View;
 use lnet_views::DepthView;
 use std::alloc::{AllocError, Global};

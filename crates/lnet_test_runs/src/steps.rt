@@ -14,6 +14,7 @@ use std::process::Abort;
 use std::test::Fail;
 
 /// A session with the files and the sink that its commands run over.
+#[derive(Drop)]
 struct Running {
     session: Session,
     files: MemoryFiles,

@@ -2,7 +2,8 @@
 #![tactic(auto)]
 
 use lnet_edge::{DiskFiles, StdSink};
-use lnet_session::{Kit, run};
+use lnet_run::run;
+use lnet_session::Kit;
 use lnet_store::View;
 use lnet_views::DepthView;
 use std::process::ExitCode;

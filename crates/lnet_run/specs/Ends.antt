@@ -8,16 +8,16 @@ use Rattle.lnet_replies.specs.Texts.{is_unmet}
 use Rattle.lnet_script.specs.declared.command.Command.{Command}
 use Rattle.lnet_script.specs.declared.script.ScriptError.TheVariants as script
 use Rattle.lnet_script.specs.Scripts.{IsScript, Refuses, script_limit}
-use Rattle.lnet_session.specs.declared.running.RunEnd.{RunEnd}
-use Rattle.lnet_session.specs.declared.running.RunEnd.TheVariants as run
-use Rattle.lnet_session.specs.declared.top.Refusal.{Refusal}
-use Rattle.lnet_session.specs.declared.top.Refusal.TheVariants as refusal
-use Rattle.lnet_session.specs.declared.top.Ending.{Ending}
-use Rattle.lnet_session.specs.declared.top.Ending.TheVariants as ending
+use Rattle.lnet_run.specs.declared.running.RunEnd.{RunEnd}
+use Rattle.lnet_run.specs.declared.running.RunEnd.TheVariants as run
+use Rattle.lnet_run.specs.declared.top.Refusal.{Refusal}
+use Rattle.lnet_run.specs.declared.top.Refusal.TheVariants as refusal
+use Rattle.lnet_run.specs.declared.top.Ending.{Ending}
+use Rattle.lnet_run.specs.declared.top.Ending.TheVariants as ending
 use Rattle.lnet_session.specs.States.{State}
 use Rattle.lnet_session.specs.Effects.{Effect}
 use Rattle.lnet_session.specs.Steps.{World, Grows, GrowsByPart, own_call}
-use Rattle.lnet_session.specs.Runs.{RunsTo, FollowsOrigin}
+use Rattle.lnet_run.specs.Runs.{RunsTo, FollowsOrigin}
 
 abbrev pub begins_with_dash : List ℕ → Bool
 begins_with_dash [] = false

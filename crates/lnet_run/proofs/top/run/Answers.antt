@@ -1,8 +1,8 @@
 use Rattle.std.proofs.Common.{refl}
-use Rattle.lnet_session.proofs.Accepted.{from_start}
-use Rattle.lnet_session.proofs.Origins.{end_follows}
-use Rattle.lnet_session.proofs.Statuses.{status_faulty, free_status, status_refused, refused_status}
-use Rattle.lnet_session.proofs.top.run.Goals as goal
+use Rattle.lnet_run.proofs.Accepted.{from_start}
+use Rattle.lnet_run.proofs.Origins.{end_follows}
+use Rattle.lnet_run.proofs.Statuses.{status_faulty, free_status, status_refused, refused_status}
+use Rattle.lnet_run.proofs.top.run.Goals as goal
 
 pub returns-clause-outcome : goal.returns-clause-outcome
 returns-clause-outcome g c =

@@ -10,8 +10,8 @@ use Rattle.lnet_replies.specs.Texts.{is_unmet, reply_text}
 use Rattle.lnet_script.specs.declared.command.Command.{Command}
 use Rattle.lnet_session.specs.declared.stepping.StepEnd.{StepEnd}
 use Rattle.lnet_session.specs.declared.stepping.StepEnd.TheVariants as ends
-use Rattle.lnet_session.specs.declared.running.RunEnd.{RunEnd}
-use Rattle.lnet_session.specs.declared.running.RunEnd.TheVariants as run
+use Rattle.lnet_run.specs.declared.running.RunEnd.{RunEnd}
+use Rattle.lnet_run.specs.declared.running.RunEnd.TheVariants as run
 use Rattle.lnet_session.specs.States.{Held, State}
 use Rattle.lnet_session.specs.Effects.{Effect}
 use Rattle.lnet_session.specs.Steps.{World, Steps, Grows}

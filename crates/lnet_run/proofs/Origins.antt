@@ -16,18 +16,18 @@ use Rattle.lnet_replies.specs.declared.reply.Reply.TheVariants as reply
 use Rattle.lnet_replies.specs.Texts.{is_unmet}
 use Rattle.lnet_session.specs.declared.stepping.StepEnd.{StepEnd}
 use Rattle.lnet_session.specs.declared.stepping.StepEnd.TheVariants as ends
-use Rattle.lnet_session.specs.declared.running.RunEnd.{RunEnd}
-use Rattle.lnet_session.specs.declared.running.RunEnd.TheVariants as run
-use Rattle.lnet_session.specs.declared.top.Ending.{Ending}
-use Rattle.lnet_session.specs.declared.top.Ending.TheVariants as ending
-use Rattle.lnet_session.specs.Ends.{EndsAs, Untouched}
+use Rattle.lnet_run.specs.declared.running.RunEnd.{RunEnd}
+use Rattle.lnet_run.specs.declared.running.RunEnd.TheVariants as run
+use Rattle.lnet_run.specs.declared.top.Ending.{Ending}
+use Rattle.lnet_run.specs.declared.top.Ending.TheVariants as ending
+use Rattle.lnet_run.specs.Ends.{EndsAs, Untouched}
 use Rattle.lnet_session.specs.States.{Held, State}
 use Rattle.lnet_session.specs.Effects.{Writes, written_text, with_content}
 use Rattle.lnet_session.specs.Steps.{World}
-use Rattle.lnet_session.specs.Runs.{Scene, Turn, Runs, SplitsAt, Ran, Stopped, AfterStop, RunsTo, FollowsOrigin, scene_of}
+use Rattle.lnet_run.specs.Runs.{Scene, Turn, Runs, SplitsAt, Ran, Stopped, AfterStop, RunsTo, FollowsOrigin, scene_of}
 use Rattle.lnet_session.specs.Formats.{reader_of}
-use Rattle.lnet_session.specs.Written.{HoldsOrigin}
-use Rattle.lnet_session.proofs.Keeping.{effect-follows}
+use Rattle.lnet_run.specs.Written.{HoldsOrigin}
+use Rattle.lnet_run.proofs.Following.{effect-follows}
 
 turn-follows : (i : ℕ) (c : Command) (old new : Scene) (text : List ℕ) (u : Bool) → FollowsOrigin old.state.held old.origin → Turn i c old new text u → FollowsOrigin new.state.held new.origin
 turn-follows i c old new text u h t = subst (FollowsOrigin new.state.held) (sym t.origin_is) (effect-follows c old.state new.state old.contents new.contents t.answer t.source old.origin h t.effect)

@@ -5,18 +5,18 @@ use Rattle.lnet_edge.specs.Outside.{Rose}
 use Rattle.lnet_edge.specs.Circuits.{CircuitValue}
 use Rattle.lnet_script.specs.declared.command.Command.{Command}
 use Rattle.lnet_session.specs.declared.stepping.StepEnd.TheVariants as ends
-use Rattle.lnet_session.specs.declared.running.RunEnd.TheVariants as run
-use Rattle.lnet_session.specs.declared.top.Refusal.{Refusal}
-use Rattle.lnet_session.specs.declared.top.Refusal.TheVariants as refusal
-use Rattle.lnet_session.specs.declared.top.Ending.{Ending}
-use Rattle.lnet_session.specs.declared.top.Ending.TheVariants as ending
+use Rattle.lnet_run.specs.declared.running.RunEnd.TheVariants as run
+use Rattle.lnet_run.specs.declared.top.Refusal.{Refusal}
+use Rattle.lnet_run.specs.declared.top.Refusal.TheVariants as refusal
+use Rattle.lnet_run.specs.declared.top.Ending.{Ending}
+use Rattle.lnet_run.specs.declared.top.Ending.TheVariants as ending
 use Rattle.lnet_script.specs.Scripts.{IsScript, commands_in}
 use Rattle.lnet_session.specs.Steps.{World, CallFailed, PutFailed}
-use Rattle.lnet_session.specs.Runs.{Scene, Turn, Runs, Stopped, scene_of}
-use Rattle.lnet_session.specs.Ends.{script_of, IsRefused, IsAccepted, EndsAs, status_number, IsRefusedSomehow, IsOneOf, IsFaulty, MeetsNoCause, IsUnhindered, IsOrMemory}
+use Rattle.lnet_run.specs.Runs.{Scene, Turn, Runs, Stopped, scene_of}
+use Rattle.lnet_run.specs.Ends.{script_of, IsRefused, IsAccepted, EndsAs, status_number, IsRefusedSomehow, IsOneOf, IsFaulty, MeetsNoCause, IsUnhindered, IsOrMemory}
 use Rattle.lnet_script.specs.Pieces.{pieces_of}
 use Rattle.lnet_script.proofs.ScriptLaws.{bad_read, spelled_read, ok_is}
-use Rattle.lnet_session.proofs.Keeping.{call-some}
+use Rattle.lnet_run.proofs.Following.{call-some}
 
 -- ---- the words and the script are accepted or refused, and not both
 

@@ -3,8 +3,8 @@ use Rattle.std.proofs.Common.{◌≡◌, ℕ, ◌≤◌, All, List, [], ◌∷�
 use Rattle.lnet_edge.specs.Outside.{Contents, Call}
 use Rattle.lnet_edge.specs.Circuits.{CircuitValue}
 use Rattle.lnet_script.specs.declared.command.Command.{Command}
-use Rattle.lnet_session.specs.declared.running.RunEnd.{RunEnd}
-use Rattle.lnet_session.specs.declared.top.Ending.{Ending}
+use Rattle.lnet_run.specs.declared.running.RunEnd.{RunEnd}
+use Rattle.lnet_run.specs.declared.top.Ending.{Ending}
 use Rattle.std.proofs.lemmas.List.Elements.{All-nil, All-cons}
 use Rattle.lnet_model.specs.declared.view_spec.ViewSpec.TheVariants as views
 use Rattle.lnet_script.specs.declared.command.Command.TheVariants as command
@@ -13,8 +13,8 @@ use Rattle.lnet_script.specs.Spelling.{Spells}
 use Rattle.lnet_script.specs.Scripts.{AreSpelled, IsScript, script_limit}
 use Rattle.lnet_session.specs.States.{State}
 use Rattle.lnet_session.specs.Steps.{IsCommand, World}
-use Rattle.lnet_session.specs.Runs.{RunsTo}
-use Rattle.lnet_session.specs.Ends.{script_of, RanScript, EndsAs}
+use Rattle.lnet_run.specs.Runs.{RunsTo}
+use Rattle.lnet_run.specs.Ends.{script_of, RanScript, EndsAs}
 
 -- what is known of a parsed script
 abbrev pub IsParsed : List ℕ → List Command → Type 0

@@ -6,12 +6,12 @@ ghost use Rattle.lnet_edge.specs.Circuits.{CircuitValue};
 ghost use Rattle.lnet_subscriptions.specs.Kept.{AreDetached};
 ghost use Rattle.lnet_session.specs.Sessions.{IsGoodBy, state_by};
 ghost use Rattle.lnet_session.specs.Steps.{World, Grows, GrowsByPart};
-ghost use Rattle.lnet_session.specs.Ends.{EndsAs, IsOutcome, IsRefusedSomehow, IsFaulty, IsUnhindered, IsOrMemory, script_of, refusal_text, status_number, RefusesAs};
+ghost use Rattle.lnet_run.specs.Ends.{EndsAs, IsOutcome, IsRefusedSomehow, IsFaulty, IsUnhindered, IsOrMemory, script_of, refusal_text, status_number, RefusesAs};
 
 use crate::running::{RunEnd, run_commands};
-use crate::session::{Kit, Session};
 use lnet_edge::{Files, PutError, Sink};
 use lnet_script::{ScriptError, parse_script};
+use lnet_session::{Kit, Session};
 use lnet_store::View;
 use std::alloc::{AllocError, Global};
 

@@ -1,8 +1,8 @@
 use Rattle.std.proofs.Common.{All, None, sym, subst}
 use Rattle.lnet_script.specs.Pieces.{pieces_of}
 use Rattle.lnet_session.specs.Steps.{IsCommand}
-use Rattle.lnet_session.proofs.Accepted.{commands-are, ran_script}
-use Rattle.lnet_session.proofs.top.run_words.Goals as goal
+use Rattle.lnet_run.proofs.Accepted.{commands-are, ran_script}
+use Rattle.lnet_run.proofs.top.run_words.Goals as goal
 
 pub run_commands-requires-clause-commands : goal.run_commands-requires-clause-commands
 run_commands-requires-clause-commands g c =

@@ -5,9 +5,9 @@ ghost use Rattle.lnet_edge.specs.Outside.{Contents};
 ghost use Rattle.lnet_script.specs.declared.command.Command.{Command as CommandValue};
 ghost use Rattle.lnet_script.specs.declared.command.Command.TheVariants.{Write};
 ghost use Rattle.lnet_script.specs.declared.command.WriteFormat.{WriteFormat as FormatValue};
-ghost use Rattle.lnet_session.specs.Runs.{Scene, Turn, Runs, SplitsAt, FollowsOrigin};
+ghost use Rattle.lnet_run.specs.Runs.{Scene, Turn, Runs, SplitsAt, FollowsOrigin};
 ghost use Rattle.lnet_session.specs.Formats.{reader_of};
-ghost use Rattle.lnet_session.specs.Written.{HoldsOrigin};
+ghost use Rattle.lnet_run.specs.Written.{HoldsOrigin};
 
 /// Over each run that begins without a network, the network of each state has no cycle, and each of its outputs
 /// computes the same function of the inputs as in the circuit that was last read or generated.

@@ -1,8 +1,8 @@
 use Rattle.std.proofs.Common.{◌+◌, ◌≤◌, take, Option}
 use Rattle.lnet_edge.specs.Circuits.{CircuitValue}
 use Rattle.lnet_session.specs.Sessions.{IsGood, state_of}
-use Rattle.lnet_session.proofs.Chain.{RanSomehow}
-use Rattle.lnet_session.proofs.running.run_commands.Given as goal
+use Rattle.lnet_run.proofs.Chain.{RanSomehow}
+use Rattle.lnet_run.proofs.running.run_commands.Given as goal
 
 abbrev pub invariant-loop-index : goal.invariant-loop-index
 invariant-loop-index g l = record {

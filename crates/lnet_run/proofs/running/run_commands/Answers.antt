@@ -2,9 +2,9 @@ use Rattle.std.proofs.Common.{◌+◌, true, false, arith}
 use Rattle.lnet_session.specs.declared.stepping.StepEnd.TheVariants as ends
 use Rattle.lnet_session.specs.Sessions.{state_of}
 use Rattle.lnet_session.specs.Steps.{World}
-use Rattle.lnet_session.proofs.Chain.{ran_nothing, ran_next, ran_all, stopped_at, after_fault, after_memory, met_is, unmet_is, with_met, with_unmet}
-use Rattle.lnet_session.proofs.running.run_commands.Goals as goal
-use Rattle.lnet_session.proofs.running.run_commands.Goals.{in-Met, in-Unmet}
+use Rattle.lnet_run.proofs.Chain.{ran_nothing, ran_next, ran_all, stopped_at, after_fault, after_memory, met_is, unmet_is, with_met, with_unmet}
+use Rattle.lnet_run.proofs.running.run_commands.Goals as goal
+use Rattle.lnet_run.proofs.running.run_commands.Goals.{in-Met, in-Unmet}
 
 pub loop-index-init : goal.loop-index-init
 loop-index-init g c = record {

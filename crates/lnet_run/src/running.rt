@@ -4,12 +4,11 @@ ghost use Rattle.std.specs.Prelude.{◌≤◌, ◌<◌, ◌+◌, ◌-◌, ◌^�
 ghost use Rattle.lnet_edge.specs.Circuits.{CircuitValue};
 ghost use Rattle.lnet_session.specs.Sessions.{IsGoodBy, state_by};
 ghost use Rattle.lnet_session.specs.Steps.{IsCommand, World};
-ghost use Rattle.lnet_session.specs.Runs.{RunsTo};
+ghost use Rattle.lnet_run.specs.Runs.{RunsTo};
 
-use crate::session::Session;
-use crate::stepping::StepEnd;
 use lnet_edge::{Files, Sink};
 use lnet_script::Command;
+use lnet_session::{Session, StepEnd};
 use lnet_store::View;
 use std::alloc::Global;
 

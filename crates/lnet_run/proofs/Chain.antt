@@ -11,7 +11,7 @@ use Rattle.lnet_replies.specs.declared.reply.Reply.{Reply}
 use Rattle.lnet_replies.specs.declared.reply.Unmet.{Unmet}
 use Rattle.lnet_replies.specs.Texts.{is_unmet, reply_text}
 use Rattle.lnet_session.specs.Steps.{World, Steps, Ended, Grows, end_of}
-use Rattle.lnet_session.specs.Runs.{Scene, Turn, Runs, Ran, Stopped, AfterStop, latest, scene_of}
+use Rattle.lnet_run.specs.Runs.{Scene, Turn, Runs, Ran, Stopped, AfterStop, latest, scene_of}
 
 or_false : (b : Bool) → (b || false) ≡ b
 or_false true = refl

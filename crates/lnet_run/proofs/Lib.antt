@@ -1,0 +1,5 @@
+mod Following
+mod Chain
+mod Accepted
+mod Origins
+mod Statuses

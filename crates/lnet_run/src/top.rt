@@ -1,10 +1,9 @@
 //! The top call: the words of the command line, the script, and its run.
 
-ghost use Rattle.std.specs.Prelude.{◌≡◌, ◌≤◌, ◌⊎◌, [], List, ℕ, Option, Some, None, map, string_bytes, IfOk, MatchOption};
+ghost use Rattle.std.specs.Prelude.{◌≡◌, ◌≤◌, ◌⊎◌, List, ℕ, Option, Some, None, map, string_bytes, IfOk, MatchOption};
 ghost use Rattle.lnet_edge.specs.Outside.{Rose};
 ghost use Rattle.lnet_edge.specs.Circuits.{CircuitValue};
-ghost use Rattle.lnet_subscriptions.specs.Kept.{AreDetached};
-ghost use Rattle.lnet_session.specs.Sessions.{IsGoodBy, state_by};
+ghost use Rattle.lnet_session.specs.Sessions.{AreDetachedBy, IsGoodBy, first_state_by, state_by};
 ghost use Rattle.lnet_session.specs.Steps.{World, Grows, GrowsByPart};
 ghost use Rattle.lnet_run.specs.Ends.{EndsAs, IsOutcome, IsRefusedSomehow, IsFaulty, IsUnhindered, IsOrMemory, script_of, refusal_text, status_number, RefusesAs};
 
@@ -137,11 +136,11 @@ pub fn run<F: Files, S: Sink>(
     out: &mut S,
     kit: Kit,
 ) -> Outcome
-    requires detached { AreDetached spec_of kit.views.items }
+    requires detached { AreDetachedBy ⟦<dyn View as View>⟧ kit }
     // How the run went, what it put, and that each output of the network that it leaves computes the same function as
     // in the circuit last read or generated.
     ensures outcome { IsOutcome (map string_bytes words.now) result.status
-        (record { state = record { held = None; roll = record { live = []; next = 1; shelf = map kind_of kit.views.items } }; contents = F.contents files.old; written = S.written out.old; file_faults = F.faults files.old; last = F.last files.old; sink_faults = S.faults out.old })
+        (record { state = first_state_by ⟦<dyn View as View>⟧ kit; contents = F.contents files.old; written = S.written out.old; file_faults = F.faults files.old; last = F.last files.old; sink_faults = S.faults out.old })
         (record { state = state_by ⟦<dyn View as View>⟧ result.session; contents = F.contents files.new; written = S.written out.new; file_faults = F.faults files.new; last = F.last files.new; sink_faults = S.faults out.new }) }
 
     // The network that it leaves has no cycle, and each live view answers as computed from it.
@@ -151,10 +150,10 @@ pub fn run<F: Files, S: Sink>(
     ensures refused { result.status ≡ 2 → IsRefusedSomehow (map string_bytes words.now) }
     ensures refuses { IsRefusedSomehow (map string_bytes words.now) → (result.status ≡ 2) ⊎ IsOrMemory 3 result.status }
     ensures fault { result.status ≡ 3 → IsFaulty (map string_bytes words.now)
-        (record { state = record { held = None; roll = record { live = []; next = 1; shelf = map kind_of kit.views.items } }; contents = F.contents files.old; written = S.written out.old; file_faults = F.faults files.old; last = F.last files.old; sink_faults = S.faults out.old })
+        (record { state = first_state_by ⟦<dyn View as View>⟧ kit; contents = F.contents files.old; written = S.written out.old; file_faults = F.faults files.old; last = F.last files.old; sink_faults = S.faults out.old })
         (record { state = state_by ⟦<dyn View as View>⟧ result.session; contents = F.contents files.new; written = S.written out.new; file_faults = F.faults files.new; last = F.last files.new; sink_faults = S.faults out.new }) }
     ensures complete { IsUnhindered (map string_bytes words.now)
-        (record { state = record { held = None; roll = record { live = []; next = 1; shelf = map kind_of kit.views.items } }; contents = F.contents files.old; written = S.written out.old; file_faults = F.faults files.old; last = F.last files.old; sink_faults = S.faults out.old })
+        (record { state = first_state_by ⟦<dyn View as View>⟧ kit; contents = F.contents files.old; written = S.written out.old; file_faults = F.faults files.old; last = F.last files.old; sink_faults = S.faults out.old })
         (record { state = state_by ⟦<dyn View as View>⟧ result.session; contents = F.contents files.new; written = S.written out.new; file_faults = F.faults files.new; last = F.last files.new; sink_faults = S.faults out.new }) → IsOrMemory 0 result.status }
 {
     let mut session = Session::new(alloc, kit);

@@ -1,5 +1,5 @@
 -- What contracts see of a session, and what is kept in one.
-use Rattle.std.specs.Prelude.{◌≡◌, ℕ, Option, None, Some, length}
+use Rattle.std.specs.Prelude.{◌≡◌, ℕ, [], Option, None, Some, length, map}
 use Rattle.std.proofs.Common.{Global}
 use Rattle.std.specs.declared.dyn_box.DynBox.{DynBox}
 use Rattle.lnet_model.specs.Answers.{Answer}
@@ -10,8 +10,9 @@ use Rattle.lnet_store.specs.declared.view.View.{Ghosts}
 use Rattle.lnet_names.specs.NameLists.{NamesValue}
 use Rattle.lnet_any.specs.AnyNets.{network_in}
 use Rattle.lnet_any.specs.Forms.{form_of}
-use Rattle.lnet_subscriptions.specs.Kept.{Follow, InStepWith, Rest, roll_of}
+use Rattle.lnet_subscriptions.specs.Kept.{AreDetached, Follow, InStepWith, Rest, roll_of}
 use Rattle.lnet_subscriptions.specs.declared.roll.Subscriptions.{Subscriptions}
+use Rattle.lnet_session.specs.declared.session.Kit.{Kit}
 use Rattle.lnet_session.specs.declared.session.Place.{Place}
 use Rattle.lnet_session.specs.declared.session.Session.{Session}
 use Rattle.lnet_session.specs.States.{Held, State}
@@ -68,3 +69,13 @@ IsGoodBy ghosts s = IsGood (λ b. ghosts b.vtable) s
 
 abbrev pub IsAtRestBy : {X : Type 0} {F : X → Type 0} → ((v : X) → Ghosts (F v)) → Session X F → Type 0
 IsAtRestBy ghosts s = IsAtRest (λ b. ghosts b.vtable) s
+
+-- ---- the kit of a session
+
+-- its views are detached
+abbrev pub AreDetachedBy : {X : Type 0} {F : X → Type 0} → ((v : X) → Ghosts (F v)) → Kit X F → Type 0
+AreDetachedBy ghosts kit = AreDetached (spec_in (λ b. ghosts b.vtable)) kit.views.items
+
+-- the state of a session that begins with it: nothing is in place, and its views are on the shelf
+abbrev pub first_state_by : {X : Type 0} {F : X → Type 0} → ((v : X) → Ghosts (F v)) → Kit X F → State
+first_state_by ghosts kit = record { held = None; roll = record { live = []; next = 1; shelf = map (kind_in (λ b. ghosts b.vtable)) kit.views.items } }

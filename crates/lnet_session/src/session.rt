@@ -1,14 +1,13 @@
 //! A session: the network in place, its names and its views.
 
-ghost use Rattle.std.specs.Prelude.{◌≡◌, [], map, option_map, Some, None, IfOk, IfErr, OnOk, OnErr};
+ghost use Rattle.std.specs.Prelude.{◌≡◌, [], option_map, Some, None, IfOk, IfErr, OnOk, OnErr};
 ghost use Rattle.lnet_any.specs.AnyNets.{network_in, views_in};
 ghost use Rattle.lnet_any.specs.Forms.{form_of};
-ghost use Rattle.lnet_subscriptions.specs.Kept.{AreDetached};
 ghost use Rattle.std.specs.List.{count_by};
 ghost use Rattle.lnet_subscriptions.specs.Rolls.{all_shelved, same_kind};
 ghost use Rattle.lnet_session.specs.Effects.{SaysCounts};
 ghost use Rattle.lnet_session.specs.Made.{IsSound};
-ghost use Rattle.lnet_session.specs.Sessions.{IsAtRestBy, IsGoodBy, FitNames, state_by};
+ghost use Rattle.lnet_session.specs.Sessions.{AreDetachedBy, IsAtRestBy, IsGoodBy, FitNames, first_state_by, state_by};
 
 use lnet_any::AnyNet;
 use lnet_model::{ViewKind, ViewSpec};
@@ -51,8 +50,8 @@ pub struct Session {
 impl Session {
     /// A session in which nothing is in place, with the kit's views on the shelf. It takes no memory.
     pub fn new(alloc: Global, kit: Kit) -> Session
-        requires detached { AreDetached spec_of kit.views.items }
-        ensures state { state_by ⟦<dyn View as View>⟧ result ≡ record { held = None; roll = record { live = []; next = 1; shelf = map kind_of kit.views.items } } }
+        requires detached { AreDetachedBy ⟦<dyn View as View>⟧ kit }
+        ensures state { state_by ⟦<dyn View as View>⟧ result ≡ first_state_by ⟦<dyn View as View>⟧ kit }
         ensures good { IsGoodBy ⟦<dyn View as View>⟧ result }
     {
         Session {

@@ -25,8 +25,8 @@ def told(*words, **more):
     return subprocess.run(words, stdout=subprocess.PIPE, text=True, check=True, **more).stdout.strip()
 
 
-def processes():
-    """The running provers: their numbers and start times, their words, and their processor seconds."""
+def processes(session):
+    """The running provers of this session of processes: their numbers and start times, their words, and their processor seconds."""
     for name in os.listdir("/proc"):
         if not name.isdigit():
             continue
@@ -38,6 +38,8 @@ def processes():
             with open(f"/proc/{name}/stat", encoding="utf-8", errors="replace") as file:
                 stat = file.read().rpartition(")")[2].split()
         except OSError:
+            continue
+        if int(stat[3]) != session:
             continue
         yield (name, stat[19]), words, sum(int(it) for it in stat[11:13]) / TICKS
 
@@ -55,7 +57,7 @@ def measured(run):
     """The seconds of each prover until the run ends, by crate and part."""
     seen = {}
     while run.poll() is None:
-        for key, words, seconds in processes():
+        for key, words, seconds in processes(run.pid):
             seen[key] = (place_of(words), seconds)
         time.sleep(STEP)
     found = {}
@@ -81,7 +83,7 @@ def main():
         told("git", "clone", "-q", TOP, f"{room}/clone")
         begin = time.time()
         with open(f"{room}/log", "w", encoding="utf-8") as log:
-            run = subprocess.Popen(["rt", "ci", "--anew"], cwd=f"{room}/clone", stdout=log, stderr=log, stdin=subprocess.DEVNULL)
+            run = subprocess.Popen(["rt", "ci", "--anew"], cwd=f"{room}/clone", stdout=log, stderr=log, stdin=subprocess.DEVNULL, start_new_session=True)
             found = measured(run)
         with open(f"{room}/log", encoding="utf-8", errors="replace") as log:
             lines = log.read().splitlines()

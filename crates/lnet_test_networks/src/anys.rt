@@ -3,8 +3,8 @@
 ghost use Rattle.lnet_hashed.specs.Views.{EachSlot, Fits};
 ghost use Rattle.lnet_any.specs.AnyNets.{core_in, network_in, views_in};
 
-use crate::forms::coded;
 use crate::networks::{build, output};
+use crate::signals::coded;
 use lnet_any::AnyNet;
 use lnet_gates::{Kind, MigGates, Node, Op, Signal};
 use lnet_network::{Network, ViewId};

@@ -4,7 +4,7 @@ ghost use Rattle.std.specs.Prelude.{◌≡◌, ◌↔◌, IsTrue, []};
 ghost use Rattle.lnet_hashed.specs.Views.{EachSlot, Fits};
 ghost use Rattle.lnet_model.specs.Changes.{IsGateAt};
 
-use crate::forms::coded;
+use crate::signals::coded;
 use lnet_gates::{AigGates, Gates, Kind, KlutGates, MigGates, Node, Op, Signal, XagGates};
 use lnet_network::Network;
 use lnet_print::{gate_count, print};

@@ -1,7 +1,7 @@
 //! Simulated networks, with values worked by hand.
 
-use crate::forms::coded;
 use crate::networks::{build, output};
+use crate::signals::coded;
 use lnet_gates::{AigGates, Gates, KlutGates, Node, Op, XagGates};
 use lnet_network::Network;
 use lnet_simulate::{equal_exhaustive, simulate};

@@ -3,7 +3,7 @@
 ghost use Rattle.std.specs.Prelude.{◌≡◌};
 ghost use Rattle.lnet_hashed.specs.Views.{EachSlot, Fits};
 
-use crate::forms::coded;
+use crate::signals::coded;
 use lnet_gates::{AigGates, Node};
 use lnet_network::{Network, ViewId};
 use lnet_store::{View, ViewKind, ViewSpec};

@@ -9,7 +9,7 @@ use lnet_gates::{
 use std::test::Fail;
 
 /// The signal of a code: twice its node, and one more where it is complemented.
-pub(crate) fn coded(code: u32) -> Signal {
+fn coded(code: u32) -> Signal {
     Signal {
         node: Node(code / 2),
         complement: code % 2 == 1,

@@ -35,6 +35,8 @@ def functions(lines):
         clauses, opened = 0, lines[at - 1].endswith("{")
         while not opened and at < len(lines) and not lines[at].endswith(";"):
             clauses += bool(CLAUSE.match(lines[at]))
+            if lines[at] == f"{indent}{{}}":
+                break
             opened = lines[at] == f"{indent}{{" or lines[at].endswith(" {") and not CLAUSE.match(lines[at])
             at += 1
         begin = at

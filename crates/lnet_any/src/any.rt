@@ -13,9 +13,10 @@ ghost use Rattle.lnet_model.specs.Networks.{IsLive, gate_count as gates_in};
 ghost use Rattle.lnet_model.specs.Dags.{IsStored};
 ghost use Rattle.lnet_model.specs.Levels.{depth as depth_of};
 ghost use Rattle.lnet_network.specs.Kept.{level_kept};
-ghost use Rattle.lnet_hashed.specs.Views.{EachSlot, Fits, Kept, SlotsKept, StandsAs, IsLeastEmpty, OthersSame};
+ghost use Rattle.lnet_hashed.specs.Views.{StandsAs, IsLeastEmpty, OthersSame, IsDetachedFrom};
+ghost use Rattle.lnet_hashed.specs.Watches.{AreFitBy, AreToldBy, IsSeated, IsUnchanged};
 ghost use Rattle.lnet_print.specs.Printed.{print_text};
-ghost use Rattle.lnet_any.specs.AnyNets.{core_in, network_in, views_in};
+ghost use Rattle.lnet_any.specs.AnyNets.{core_in, network_in, views_in, watch_in};
 
 use crate::substituting::substitute;
 use lnet_gates::{AigGates, Gates, Kind, KlutGates, MigGates, Node, Signal, XagGates};
@@ -113,10 +114,10 @@ impl AnyNet {
     /// Whether a walk along fanins from the signal's node comes to the node, which may be the signal's own: `false` where the signal's
     /// node isn't live. Linear in the nodes that the signal depends on and their fanins; it takes no memory.
     pub fn depends_on(&mut self, s: Signal, n: Node) -> bool
-        requires in_step { EachSlot (Fits (λ b. (⟦<dyn View as View>⟧ b.vtable).spec_of b.value) (λ b. (⟦<dyn View as View>⟧ b.vtable).kept b.value) (λ b. (⟦<dyn View as View>⟧ b.vtable).room b.value) (network_in self.old) (core_in self.old).room) (views_in self.old) }
+        requires in_step { AreFitBy ⟦<dyn View as View>⟧ (network_in self.old) (core_in self.old).room (watch_in self.old) }
         ensures answer { IsTrue result ↔ Depends (network_in self.old) s n.0 }
         ensures same { self.new ≡ self.old }
-        ensures in_step { EachSlot (Fits (λ b. (⟦<dyn View as View>⟧ b.vtable).spec_of b.value) (λ b. (⟦<dyn View as View>⟧ b.vtable).kept b.value) (λ b. (⟦<dyn View as View>⟧ b.vtable).room b.value) (network_in self.new) (core_in self.new).room) (views_in self.new) }
+        ensures in_step { AreFitBy ⟦<dyn View as View>⟧ (network_in self.new) (core_in self.new).room (watch_in self.new) }
     {
         match self {
             AnyNet::Aig(net) => net.depends_on(s, n),
@@ -162,14 +163,12 @@ impl AnyNet {
         requires detached { spec_of view ≡ None }
         requires of_kind { kind_for spec ≡ kind_of view }
         requires rule { IsSpec spec }
-        requires in_step { EachSlot (Fits spec_of kept room (network_in self.old) (core_in self.old).room) (views_in self.old) }
+        requires in_step { AreFitBy ⟦<dyn View as View>⟧ (network_in self.old) (core_in self.old).room (watch_in self.old) }
         ensures core { core_in self.new ≡ core_in self.old }
-        ensures id { IfOk result (λ id. IsLeastEmpty (views_in self.old) id.0) }
-        ensures stands { IfOk result (λ id. IsSomeAnd (slice_index_or (views_in self.new) id.0 None) (StandsAs kind_of spec_of (kind_of view) spec)) }
-        ensures others { IfOk result (λ id. OthersSame (views_in self.old) (views_in self.new) id.0) }
-        ensures same { OnErr result (views_in self.new ≡ views_in self.old) }
-        ensures back { IfErr result (λ e. (spec_of e.0 ≡ None) × (kind_of e.0 ≡ kind_of view)) }
-        ensures in_step { EachSlot (Fits spec_of kept room (network_in self.new) (core_in self.new).room) (views_in self.new) }
+        ensures seated { IfOk result (λ id. IsSeated kind_of spec_of (kind_of view) spec (watch_in self.old) (watch_in self.new) id.0) }
+        ensures same { OnErr result (IsUnchanged (watch_in self.old) (watch_in self.new)) }
+        ensures back { IfErr result (λ e. IsDetachedFrom kind_of spec_of kept room view e.0) }
+        ensures in_step { AreFitBy ⟦<dyn View as View>⟧ (network_in self.new) (core_in self.new).room (watch_in self.new) }
     {
         match self {
             AnyNet::Aig(net) => net.subscribe(view, spec),
@@ -182,14 +181,14 @@ impl AnyNet {
     /// Takes a view out, detached: `None` exactly where no live view has the id. The other views stay under their ids. It takes no
     /// memory. Constant time, beside the drop of the view's answers.
     pub fn unsubscribe(&mut self, id: ViewId) -> Option<Box<dyn View>>
-        requires in_step { EachSlot (Fits spec_of kept room (network_in self.old) (core_in self.old).room) (views_in self.old) }
+        requires in_step { AreFitBy ⟦<dyn View as View>⟧ (network_in self.old) (core_in self.old).room (watch_in self.old) }
         ensures core { core_in self.new ≡ core_in self.old }
         ensures some { IsSome result ↔ IsSome (slice_index_or (views_in self.old) id.0 None) }
-        ensures detached { IfSome result (λ b. spec_of b ≡ None) }
-        ensures kind { option_map kind_of result ≡ option_map kind_of (slice_index_or (views_in self.old) id.0 None) }
+        ensures detached { IfSome result (λ b. IsSomeAnd (slice_index_or (views_in self.old) id.0 None) (λ a. IsDetachedFrom kind_of spec_of kept room a b)) }
         ensures empty { slice_index_or (views_in self.new) id.0 None ≡ None }
         ensures others { OthersSame (views_in self.old) (views_in self.new) id.0 }
-        ensures in_step { EachSlot (Fits spec_of kept room (network_in self.new) (core_in self.new).room) (views_in self.new) }
+        ensures visits { (watch_in self.new).visits.items ≡ (watch_in self.old).visits.items }
+        ensures in_step { AreFitBy ⟦<dyn View as View>⟧ (network_in self.new) (core_in self.new).room (watch_in self.new) }
     {
         match self {
             AnyNet::Aig(net) => net.unsubscribe(id),
@@ -206,7 +205,7 @@ impl AnyNet {
         requires gate { IsGateAt (network_in self.old) gate.0 }
         requires live { IsLive (network_in self.old) signal.node.0 }
         requires free { Depends (network_in self.old) signal gate.0 → ⊥ }
-        requires in_step { EachSlot (Fits (λ b. (⟦<dyn View as View>⟧ b.vtable).spec_of b.value) (λ b. (⟦<dyn View as View>⟧ b.vtable).kept b.value) (λ b. (⟦<dyn View as View>⟧ b.vtable).room b.value) (network_in self.old) (core_in self.old).room) (views_in self.old) }
+        requires in_step { AreFitBy ⟦<dyn View as View>⟧ (network_in self.old) (core_in self.old).room (watch_in self.old) }
         ensures substitutes { Substitutes (network_in self.old).kind (form_of (network_in self.old).kind) (network_in self.old) gate.0 signal (network_in self.new) }
         // Equal functions leave the outputs as they were.
         ensures outputs { ((a : ℕ → Bool) → signal_value (network_in self.old) a signal ≡ node_value (network_in self.old) a gate.0) → (a : ℕ → Bool) → network_outputs (network_in self.new) a ≡ network_outputs (network_in self.old) a }
@@ -216,8 +215,8 @@ impl AnyNet {
         ensures kind { (network_in self.new).kind ≡ (network_in self.old).kind }
         ensures inputs { (network_in self.new).inputs ≡ (network_in self.old).inputs }
         ensures outputs_count { length (network_in self.new).outputs ≡ length (network_in self.old).outputs }
-        ensures in_step { EachSlot (Fits (λ b. (⟦<dyn View as View>⟧ b.vtable).spec_of b.value) (λ b. (⟦<dyn View as View>⟧ b.vtable).kept b.value) (λ b. (⟦<dyn View as View>⟧ b.vtable).room b.value) (network_in self.new) (core_in self.new).room) (views_in self.new) }
-        ensures kept { SlotsKept (Kept (λ b. (⟦<dyn View as View>⟧ b.vtable).kind_of b.value) (λ b. (⟦<dyn View as View>⟧ b.vtable).spec_of b.value) (λ b. (⟦<dyn View as View>⟧ b.vtable).room b.value)) (views_in self.old) (views_in self.new) }
+        ensures room { (core_in self.new).room ≡ (core_in self.old).room }
+        ensures in_step { AreToldBy ⟦<dyn View as View>⟧ (network_in self.new) (core_in self.new).room (watch_in self.old) (watch_in self.new) }
     {
         match self {
             AnyNet::Aig(net) => substitute(net, gate, signal),

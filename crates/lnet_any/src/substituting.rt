@@ -8,7 +8,7 @@ ghost use Rattle.lnet_model.specs.Fanouts.{references};
 ghost use Rattle.lnet_model.specs.Networks.{IsLive};
 ghost use Rattle.lnet_model.specs.Values.{network_outputs, node_value, signal_value};
 ghost use Rattle.lnet_hashed.specs.Strashed.{IsStrashed};
-ghost use Rattle.lnet_hashed.specs.Views.{EachSlot, Fits, Kept, SlotsKept};
+ghost use Rattle.lnet_hashed.specs.Watches.{AreFitBy, AreToldBy};
 ghost use Rattle.lnet_substitution.specs.Substitutions.{Substitutes};
 
 use lnet_gates::{Gates, Node, Signal};
@@ -21,7 +21,7 @@ pub(crate) fn substitute<G: Gates>(net: &mut Network<G>, gate: Node, signal: Sig
     requires gate { IsGateAt net.old.core.network gate.0 }
     requires live { IsLive net.old.core.network signal.node.0 }
     requires free { Depends net.old.core.network signal gate.0 → ⊥ }
-    requires in_step { EachSlot (Fits (λ b. (⟦<dyn View as View>⟧ b.vtable).spec_of b.value) (λ b. (⟦<dyn View as View>⟧ b.vtable).kept b.value) (λ b. (⟦<dyn View as View>⟧ b.vtable).room b.value) net.old.core.network net.old.core.room) net.old.views.items }
+    requires in_step { AreFitBy ⟦<dyn View as View>⟧ net.old.core.network net.old.core.room net.old.watch }
     ensures substitutes { Substitutes G.KIND G.form net.old.core.network gate.0 signal net.new.core.network }
     // Equal functions leave the outputs as they were.
     ensures outputs { ((a : ℕ → Bool) → signal_value net.old.core.network a signal ≡ node_value net.old.core.network a gate.0) → (a : ℕ → Bool) → network_outputs net.new.core.network a ≡ network_outputs net.old.core.network a }
@@ -32,8 +32,8 @@ pub(crate) fn substitute<G: Gates>(net: &mut Network<G>, gate: Node, signal: Sig
     ensures kind { net.new.core.network.kind ≡ net.old.core.network.kind }
     ensures inputs { net.new.core.network.inputs ≡ net.old.core.network.inputs }
     ensures outputs_count { length net.new.core.network.outputs ≡ length net.old.core.network.outputs }
-    ensures in_step { EachSlot (Fits (λ b. (⟦<dyn View as View>⟧ b.vtable).spec_of b.value) (λ b. (⟦<dyn View as View>⟧ b.vtable).kept b.value) (λ b. (⟦<dyn View as View>⟧ b.vtable).room b.value) net.new.core.network net.new.core.room) net.new.views.items }
-    ensures kept { SlotsKept (Kept (λ b. (⟦<dyn View as View>⟧ b.vtable).kind_of b.value) (λ b. (⟦<dyn View as View>⟧ b.vtable).spec_of b.value) (λ b. (⟦<dyn View as View>⟧ b.vtable).room b.value)) net.old.views.items net.new.views.items }
+    ensures room { net.new.core.room ≡ net.old.core.room }
+    ensures in_step { AreToldBy ⟦<dyn View as View>⟧ net.new.core.network net.new.core.room net.old.watch net.new.watch }
 {
     let _before = net.live_count();
     let _kind = net.kind();

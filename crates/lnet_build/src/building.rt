@@ -1,4 +1,5 @@
 //! The network of a circuit.
+#![tactic(auto, using(lnet_hashed::proofs::KeptViews::bare_fit, lnet_hashed::proofs::KeptViews::bare_told))]
 
 ghost use Rattle.std.specs.Prelude.{◌≡◌, ◌<◌, ◌≤◌, [], ℕ, Bool, All, IfOk, OnOk, Err, length};
 ghost use Rattle.lnet_model.specs.Along.{Acyclic};
@@ -12,6 +13,7 @@ ghost use Rattle.lnet_edge.specs.Values.{circuit_outputs};
 ghost use Rattle.lnet_order.specs.Orders.{order_of};
 ghost use Rattle.lnet_build.specs.Built.{IsBuilt, names_of as port_names, numbers_needed, unswept};
 ghost use Rattle.lnet_build.specs.Signals.{FitsPlace};
+ghost use Rattle.lnet_hashed.specs.Watches.{IsBare};
 
 use crate::equations::build_equations;
 use crate::naming::names_of;
@@ -47,7 +49,7 @@ pub fn build<G: Gates>(
     circuit: &Circuit,
 ) -> Result<Names, AddError>
     requires first { net.old.core.network ≡ of_kind G.KIND first_network }
-    requires none { net.old.views.items ≡ [] }
+    requires none { IsBare net.old.watch }
     ensures network { OnOk result (IsBuilt G.KIND G.form circuit.now net.new.core.network) }
     ensures names { IfOk result (λ names. names ≡ port_names circuit.now) }
     ensures inputs { OnOk result (length net.new.core.network.inputs ≡ length circuit.now.inputs) }
@@ -56,7 +58,7 @@ pub fn build<G: Gates>(
     ensures acyclic { OnOk result (Acyclic net.new.core.network) }
     ensures strashed { OnOk result (IsStrashed G.KIND G.form net.new.core.network) }
     ensures tidy { OnOk result ((n : ℕ) → IsGateAt net.new.core.network n → 0 < references net.new.core.network n) }
-    ensures views { OnOk result (net.new.views.items ≡ []) }
+    ensures views { OnOk result (IsBare net.new.watch) }
     ensures fits { OnOk result (numbers_needed G.KIND G.form circuit.now ≤ NUMBERS) }
     ensures full { result ≡ Err AddError.Full → NUMBERS < numbers_needed G.KIND G.form circuit.now }
 {
@@ -74,11 +76,11 @@ pub fn build<G: Gates>(
 /// Makes of the first network the circuit's, before the gates that no output reaches are removed.
 fn raise<G: Gates>(alloc: Global, net: &mut Network<G>, circuit: &Circuit) -> Result<(), AddError>
     requires first { net.old.core.network ≡ of_kind G.KIND first_network }
-    requires none { net.old.views.items ≡ [] }
+    requires none { IsBare net.old.watch }
     ensures network { OnOk result (net.new.core.network ≡ unswept G.KIND G.form circuit.now) }
     ensures stored { OnOk result (IsStored net.new.core.network) }
     ensures words { OnOk result (All (FitsPlace circuit.now.equations) (order_of circuit.now)) }
-    ensures none { OnOk result (net.new.views.items ≡ []) }
+    ensures none { OnOk result (IsBare net.new.watch) }
     ensures fits { OnOk result (numbers_needed G.KIND G.form circuit.now ≤ NUMBERS) }
     ensures full { result ≡ Err AddError.Full → NUMBERS < numbers_needed G.KIND G.form circuit.now }
 {

@@ -1,4 +1,5 @@
 //! The equations of a circuit, built in order.
+#![tactic(auto, using(lnet_hashed::proofs::KeptViews::bare_fit, lnet_hashed::proofs::KeptViews::bare_told))]
 
 ghost use Rattle.std.specs.Prelude.{◌≡◌, ◌<◌, ◌≤◌, [], ℕ, Some, map, slice_get, All, OnOk, Err, length};
 ghost use Rattle.lnet_model.specs.Dags.{NUMBERS};
@@ -8,6 +9,7 @@ ghost use Rattle.lnet_edge.specs.Wires.{HasArity, HasArities};
 ghost use Rattle.lnet_rules.specs.Rules.{FitsTable};
 ghost use Rattle.lnet_build.specs.Built.{Building, with_equation, with_places};
 ghost use Rattle.lnet_build.specs.Signals.{AreSignalsLive, FitsPlace, Stand};
+ghost use Rattle.lnet_hashed.specs.Watches.{IsBare};
 
 use crate::signals::{Signals, signals_of};
 use lnet_edge::Equation;
@@ -28,11 +30,11 @@ pub(crate) fn build_equations<G: Gates>(
     requires arities { HasArities (equation_views equations.now) }
     requires within { All (λ k. k < length equations.now) order.now }
     requires live { AreSignalsLive net.old.core.network signals.old }
-    requires none { net.old.views.items ≡ [] }
+    requires none { IsBare net.old.watch }
     ensures built { OnOk result ((b : Building) → Stand net.old.core.network signals.old b → Stand net.new.core.network signals.new (with_places G.KIND G.form (equation_views equations.now) b order.now)) }
     ensures live { OnOk result (AreSignalsLive net.new.core.network signals.new) }
     ensures full { result ≡ Err AddError.Full → (b : Building) → Stand net.old.core.network signals.old b → NUMBERS < live_count (with_places G.KIND G.form (equation_views equations.now) b order.now).network }
-    ensures none { net.new.views.items ≡ [] }
+    ensures none { IsBare net.new.watch }
     ensures words { OnOk result (All (FitsPlace (equation_views equations.now)) order.now) }
 {
     for place in order {
@@ -50,11 +52,11 @@ fn build_equation<G: Gates>(
 ) -> Result<(), AddError>
     requires arity { HasArity equation.now.rule (length equation.now.operands.items) }
     requires live { AreSignalsLive net.old.core.network signals.old }
-    requires none { net.old.views.items ≡ [] }
+    requires none { IsBare net.old.watch }
     ensures built { OnOk result ((b : Building) → Stand net.old.core.network signals.old b → Stand net.new.core.network signals.new (with_equation G.KIND G.form b (equation_view equation.now))) }
     ensures live { OnOk result (AreSignalsLive net.new.core.network signals.new) }
     ensures full { result ≡ Err AddError.Full → (b : Building) → Stand net.old.core.network signals.old b → NUMBERS < live_count (with_equation G.KIND G.form b (equation_view equation.now)).network }
-    ensures none { net.new.views.items ≡ [] }
+    ensures none { IsBare net.new.watch }
     ensures word { OnOk result (FitsTable equation.now.rule) }
 {
     let _live = net.live_count();

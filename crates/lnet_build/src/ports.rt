@@ -1,10 +1,12 @@
 //! The inputs and outputs of a network that is built.
+#![tactic(auto, using(lnet_hashed::proofs::KeptViews::bare_fit, lnet_hashed::proofs::KeptViews::bare_told))]
 
 ghost use Rattle.std.specs.Prelude.{◌≡◌, ◌+◌, ◌≤◌, [], map, OnOk, Err, length};
 ghost use Rattle.lnet_model.specs.Dags.{NUMBERS, OUTPUTS};
 ghost use Rattle.lnet_model.specs.Networks.{live_count};
 ghost use Rattle.lnet_build.specs.Built.{Building, with_port, with_ports, with_outputs};
 ghost use Rattle.lnet_build.specs.Signals.{read_in, AreSignalsLive, Stand};
+ghost use Rattle.lnet_hashed.specs.Watches.{IsBare};
 
 use crate::signals::{Signals, signal_of};
 use lnet_edge::{InputPort, OutputPort};
@@ -21,11 +23,11 @@ pub(crate) fn add_inputs<G: Gates>(
 ) -> Result<(), AddError>
     requires few { live_count net.old.core.network + length ports.now ≤ NUMBERS }
     requires live { AreSignalsLive net.old.core.network signals.old }
-    requires none { net.old.views.items ≡ [] }
+    requires none { IsBare net.old.watch }
     ensures built { OnOk result ((b : Building) → Stand net.old.core.network signals.old b → Stand net.new.core.network signals.new (with_ports b ports.now)) }
     ensures live { OnOk result (AreSignalsLive net.new.core.network signals.new) }
     ensures full { result ≡ Err AddError.Full → ⊥ }
-    ensures none { net.new.views.items ≡ [] }
+    ensures none { IsBare net.new.watch }
 {
     for port in ports {
         add_input(net, signals, port)?;
@@ -41,12 +43,12 @@ fn add_input<G: Gates>(
 ) -> Result<(), AddError>
     requires few { live_count net.old.core.network + 1 ≤ NUMBERS }
     requires live { AreSignalsLive net.old.core.network signals.old }
-    requires none { net.old.views.items ≡ [] }
+    requires none { IsBare net.old.watch }
     ensures built { OnOk result ((b : Building) → Stand net.old.core.network signals.old b → Stand net.new.core.network signals.new (with_port b port.now)) }
     ensures count { OnOk result (live_count net.new.core.network ≡ live_count net.old.core.network + 1) }
     ensures live { OnOk result (AreSignalsLive net.new.core.network signals.new) }
     ensures full { result ≡ Err AddError.Full → ⊥ }
-    ensures none { net.new.views.items ≡ [] }
+    ensures none { IsBare net.new.watch }
 {
     let _before = net.live_count();
     let signal = net.input()?;
@@ -64,9 +66,9 @@ pub(crate) fn add_outputs<G: Gates>(
 ) -> Result<(), AllocError>
     requires few { length net.old.core.network.outputs + length ports.now ≤ OUTPUTS }
     requires live { AreSignalsLive net.old.core.network signals.now }
-    requires none { net.old.views.items ≡ [] }
+    requires none { IsBare net.old.watch }
     ensures network { OnOk result (net.new.core.network ≡ with_outputs net.old.core.network (map (λ p. read_in signals.now p.source) ports.now)) }
-    ensures none { net.new.views.items ≡ [] }
+    ensures none { IsBare net.new.watch }
 {
     for port in ports {
         let _live = net.live_count();

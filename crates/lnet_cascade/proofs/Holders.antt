@@ -1,5 +1,5 @@
 -- The clean gate with a key.
-use Rattle.std.proofs.Common.{◌≡◌, ◌≢◌, ◌↔◌, ℕ, Bool, true, false, List, Option, None, Some, refl, sym, ap, subst, ◌∙◌}
+use Rattle.std.proofs.Common.{◌≡◌, ◌≢◌, ◌↔◌, ℕ, Bool, true, false, Option, None, Some, refl, sym, ap, subst, ◌∙◌}
 use Rattle.lnet_gates.specs.declared.signal.Signal.{Signal}
 use mathlib.Core.Bool.{beq}
 use Rattle.lnet_gates.specs.Gates.{GateValue, KeyValue}

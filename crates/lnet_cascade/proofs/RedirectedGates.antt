@@ -1,5 +1,5 @@
 -- One gate reads t in place of x.
-use Rattle.std.proofs.Common.{◌≡◌, ℕ, ◌<◌, ◌⊎◌, [], ◌∷◌, map, length, IsSome, Option, None, Some, refl, sym, ap, subst, ◌∙◌, inl, inr}
+use Rattle.std.proofs.Common.{◌≡◌, ◌≢◌, ℕ, ◌<◌, ◌⊎◌, [], ◌∷◌, map, length, IsSome, Option, None, Some, refl, sym, ap, subst, ◌∙◌, inl, inr}
 use Rattle.std.specs.Prelude.{option_map}
 use Rattle.std.proofs.lemmas.List.{length-map}
 use Rattle.std.proofs.lemmas.Bool.Decides.{eqb_tells}
@@ -14,8 +14,12 @@ use Rattle.lnet_model.proofs.Changes.{with_entry-here, with_entry-apart}
 use Rattle.lnet_substitution.specs.Replaced.{redirected, redirected_entry}
 use Rattle.lnet_substitution.proofs.Jumps.{jumps-free, reaches-on}
 use Rattle.lnet_substitution.proofs.Replaced.{in_redirected, redirected_gate}
-use Rattle.lnet_substitution.proofs.OneReplaced.{gate-live, gate-fanin, map-apart}
+use Rattle.lnet_substitution.proofs.OneReplaced.{gate-live, gate-fanin, map-apart, not_redirected}
 use Rattle.lnet_cascade.specs.Redirections.{RedirectedAt}
+
+-- one gate stands at one number
+pub one-gate : {g h : GateValue} → Some (IsGate g) ≡ Some (IsGate h) → g ≡ h
+one-gate e = cc
 
 -- numbers stay below where a gate is set
 pub below-set : (N : NetworkValue) (n room : ℕ) (g h : GateValue) → GateAt N n h → AreBelow N room → AreBelow (with_entry N n (IsGate g)) room
@@ -23,6 +27,10 @@ below-set N n room g h at below m live = elim (eqb_tells m n) as (λ _. m < room
   | inl p ↦ below m (subst (IsLive N) (sym p.1) (gate-live N n h at))
   | inr p ↦ below m (subst IsSome (with_entry-apart N n (IsGate g) m p.1) live)
 ]
+
+-- a gate that reads x is another one afterwards
+pub redirected-differs : (x : ℕ) (t : Signal) (g : GateValue) → In x (nodes_read g.fanins) → t.node.0 ≢ x → redirected_gate x t g ≡ g → ⊥
+redirected-differs x t g names apart is = not_redirected x x t g.fanins apart (subst (λ (h : GateValue). In x (nodes_read h.fanins)) (sym is) names) refl
 
 module _ (N : NetworkValue) (i x : ℕ) (t : Signal) (g : GateValue) (at : GateAt N i g) (names : In x (nodes_read g.fanins)) (stored : IsStored N) (live : IsLive N t.node.0) (free : Depends N t x → ⊥) where
   abbrev after : NetworkValue

@@ -9,9 +9,9 @@ use Rattle.lnet_gates.specs.Gates.{GateValue}
 use Rattle.lnet_gates.specs.Natives.{IsNativeGate, FitsWord}
 use Rattle.lnet_gates.specs.NormalLaws.{NormalLaws}
 use Rattle.lnet_gates.specs.Plans.{Takes}
-use Rattle.lnet_model.specs.Networks.{Constant, IsGate, NetworkValue, entry_at, gate_in, gate_at}
+use Rattle.lnet_model.specs.Networks.{NetworkValue, entry_at, gate_at}
 use Rattle.lnet_model.specs.Changes.{GateAt, IsGateAt}
-use Rattle.lnet_store.specs.StoreValues.{first_network, with_input}
+use Rattle.lnet_store.specs.StoreValues.{first_network}
 use Rattle.lnet_store.proofs.StoreLemmas.{first-stored}
 use Rattle.lnet_store.proofs.KeptLemmas.{gate-at}
 use Rattle.lnet_hashed.specs.Strashed.{IsStrashed, Placed}

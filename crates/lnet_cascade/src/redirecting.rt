@@ -1,4 +1,5 @@
 //! Redirecting references from a gate to a signal, gate by gate, and the removal of the gate.
+#![tactic(auto, using(lnet_hashed::proofs::KeptViews::told_twice, lnet_hashed::proofs::KeptViews::told_same))]
 
 ghost use Rattle.std.specs.Prelude.{◌≡◌, ◌≤◌, ◌<◌, ◌+◌, ◌↔◌, ℕ, IsTrue, false, length, map, slice_set};
 ghost use Rattle.lnet_model.specs.Networks.{IsLive, live_count, entry_at};
@@ -7,15 +8,14 @@ ghost use Rattle.lnet_model.specs.Changes.{IsGateAt, without};
 ghost use Rattle.lnet_model.specs.Fanouts.{references};
 ghost use Rattle.lnet_model.specs.Dags.{numbers_of};
 ghost use Rattle.lnet_substitution.specs.Replaced.{redirected, replaced};
-ghost use Rattle.lnet_hashed.specs.Indexed.{IsIndexed};
-ghost use Rattle.lnet_hashed.specs.Views.{EachSlot, Fits, Kept, SlotsKept};
+ghost use Rattle.lnet_hashed.specs.Watches.{AreFitBy, AreToldBy};
 ghost use Rattle.lnet_cascade.specs.Marks.{MarkedMore};
 ghost use Rattle.lnet_cascade.specs.Redirections.{RedirectedAt, RedirectedBelow, outputs_redirected};
-ghost use Rattle.lnet_cascade.specs.Rooms.{StoreHasRoom};
+ghost use Rattle.lnet_cascade.specs.Rooms.{IsMidway, StaysMidway};
 
 use arrayvec::ArrayVec;
 use lnet_gates::{Gate, Node, Signal};
-use lnet_hashed::{Keys, tell};
+use lnet_hashed::{Hashed, Watch};
 use lnet_store::{Event, Store, View};
 
 /// Each reference to a node is to read a signal in its place.
@@ -81,68 +81,41 @@ fn is_read(signals: &[Signal], node: Node) -> bool
 }
 
 /// Redirects the references of the gate at a number, lets it be dirty, and tells the views.
-fn redirect_at(
-    store: &mut Store,
-    keys: &mut Keys,
-    views: &mut Vec<Option<Box<dyn View>>>,
-    visits: &mut Vec<u64>,
-    numbers: u32,
-    n: u32,
-    redirection: Redirection,
-)
-    requires live { IsLive store.old.network redirection.to.node.0 }
-    requires free { Depends store.old.network redirection.to redirection.from.0 → ⊥ }
-    requires room { StoreHasRoom store.old numbers }
-    requires indexed { IsIndexed store.old.network keys.old numbers }
-    requires fit { EachSlot (Fits spec_of kept room store.old.network numbers) views.old.items }
-    ensures redirected { RedirectedAt store.old.network redirection.from.0 redirection.to n store.new.network }
-    ensures dirty { MarkedMore (λ m. (m ≡ n) × In redirection.from.0 (fanin_nodes (entry_at store.old.network m))) keys.old.dirty.items keys.new.dirty.items }
-    ensures indexed { IsIndexed store.new.network keys.new numbers }
-    ensures room { StoreHasRoom store.new numbers }
-    ensures fit { EachSlot (Fits spec_of kept room store.new.network numbers) views.new.items }
-    ensures kept { SlotsKept (Kept kind_of spec_of room) views.old.items views.new.items }
+fn redirect_at(hashed: &mut Hashed, watch: &mut Watch, n: u32, redirection: Redirection)
+    requires live { IsLive hashed.old.store.network redirection.to.node.0 }
+    requires free { Depends hashed.old.store.network redirection.to redirection.from.0 → ⊥ }
+    requires midway { IsMidway hashed.old }
+    requires fit { AreFitBy ⟦<dyn View as View>⟧ hashed.old.store.network hashed.old.room watch.old }
+    ensures redirected { RedirectedAt hashed.old.store.network redirection.from.0 redirection.to n hashed.new.store.network }
+    ensures dirty { MarkedMore (λ m. (m ≡ n) × In redirection.from.0 (fanin_nodes (entry_at hashed.old.store.network m))) hashed.old.keys.dirty.items hashed.new.keys.dirty.items }
+    ensures midway { StaysMidway hashed.old hashed.new }
+    ensures told { AreToldBy ⟦<dyn View as View>⟧ hashed.new.store.network hashed.new.room watch.old watch.new }
 {
-    let _live = store.live_count();
-    if let Some(gate) = store.gate_of(Node(n)) {
+    let _live = hashed.store.live_count();
+    if let Some(gate) = hashed.store.gate_of(Node(n)) {
         if redirection.concerns(gate) {
             let new = redirection.of_gate(gate);
-            let old = store.set_gate(Node(n), new);
-            keys.soil(Node(n));
-            tell(
-                views,
-                visits,
-                store,
-                &Event::Modified(Node(n), old),
-                numbers,
-            );
+            let old = hashed.store.set_gate(Node(n), new);
+            hashed.keys.soil(Node(n));
+            watch.tell(&hashed.store, &Event::Modified(Node(n), old), hashed.room);
         }
     }
 }
 
 /// Redirects the references of each gate, marks those that had one as dirty, and tells the views of each.
-fn redirect_gates(
-    store: &mut Store,
-    keys: &mut Keys,
-    views: &mut Vec<Option<Box<dyn View>>>,
-    visits: &mut Vec<u64>,
-    numbers: u32,
-    redirection: Redirection,
-)
-    requires live { IsLive store.old.network redirection.to.node.0 }
-    requires free { Depends store.old.network redirection.to redirection.from.0 → ⊥ }
-    requires room { StoreHasRoom store.old numbers }
-    requires indexed { IsIndexed store.old.network keys.old numbers }
-    requires fit { EachSlot (Fits spec_of kept room store.old.network numbers) views.old.items }
-    ensures redirected { RedirectedBelow store.old.network redirection.from.0 redirection.to (numbers_of store.old.network) store.new.network }
-    ensures dirty { MarkedMore (λ m. In redirection.from.0 (fanin_nodes (entry_at store.old.network m))) keys.old.dirty.items keys.new.dirty.items }
-    ensures indexed { IsIndexed store.new.network keys.new numbers }
-    ensures room { StoreHasRoom store.new numbers }
-    ensures fit { EachSlot (Fits spec_of kept room store.new.network numbers) views.new.items }
-    ensures kept { SlotsKept (Kept kind_of spec_of room) views.old.items views.new.items }
+fn redirect_gates(hashed: &mut Hashed, watch: &mut Watch, redirection: Redirection)
+    requires live { IsLive hashed.old.store.network redirection.to.node.0 }
+    requires free { Depends hashed.old.store.network redirection.to redirection.from.0 → ⊥ }
+    requires midway { IsMidway hashed.old }
+    requires fit { AreFitBy ⟦<dyn View as View>⟧ hashed.old.store.network hashed.old.room watch.old }
+    ensures redirected { RedirectedBelow hashed.old.store.network redirection.from.0 redirection.to (numbers_of hashed.old.store.network) hashed.new.store.network }
+    ensures dirty { MarkedMore (λ m. In redirection.from.0 (fanin_nodes (entry_at hashed.old.store.network m))) hashed.old.keys.dirty.items hashed.new.keys.dirty.items }
+    ensures midway { StaysMidway hashed.old hashed.new }
+    ensures told { AreToldBy ⟦<dyn View as View>⟧ hashed.new.store.network hashed.new.room watch.old watch.new }
 {
-    let end = store.numbers();
+    let end = hashed.store.numbers();
     for n in 0..end {
-        redirect_at(store, keys, views, visits, numbers, n, redirection);
+        redirect_at(hashed, watch, n, redirection);
     }
 }
 
@@ -160,59 +133,39 @@ fn redirect_outputs(store: &mut Store, redirection: Redirection)
 }
 
 /// Removes a gate that nothing names, and tells the views.
-pub(crate) fn remove(
-    store: &mut Store,
-    keys: &mut Keys,
-    views: &mut Vec<Option<Box<dyn View>>>,
-    visits: &mut Vec<u64>,
-    numbers: u32,
-    n: Node,
-)
-    requires gate { IsGateAt store.old.network n.0 }
-    requires free { references store.old.network n.0 ≡ 0 }
-    requires room { StoreHasRoom store.old numbers }
-    requires indexed { IsIndexed store.old.network keys.old numbers }
-    requires fit { EachSlot (Fits spec_of kept room store.old.network numbers) views.old.items }
-    ensures network { store.new.network ≡ without store.old.network n.0 }
-    ensures dirty { keys.new.dirty.items ≡ slice_set keys.old.dirty.items n.0 false }
-    ensures indexed { IsIndexed store.new.network keys.new numbers }
-    ensures count { live_count store.new.network + 1 ≡ live_count store.old.network }
-    ensures room { StoreHasRoom store.new numbers }
-    ensures fit { EachSlot (Fits spec_of kept room store.new.network numbers) views.new.items }
-    ensures kept { SlotsKept (Kept kind_of spec_of room) views.old.items views.new.items }
+fn remove(hashed: &mut Hashed, watch: &mut Watch, n: Node)
+    requires gate { IsGateAt hashed.old.store.network n.0 }
+    requires free { references hashed.old.store.network n.0 ≡ 0 }
+    requires midway { IsMidway hashed.old }
+    requires fit { AreFitBy ⟦<dyn View as View>⟧ hashed.old.store.network hashed.old.room watch.old }
+    ensures network { hashed.new.store.network ≡ without hashed.old.store.network n.0 }
+    ensures dirty { hashed.new.keys.dirty.items ≡ slice_set hashed.old.keys.dirty.items n.0 false }
+    ensures count { live_count hashed.new.store.network + 1 ≡ live_count hashed.old.store.network }
+    ensures midway { StaysMidway hashed.old hashed.new }
+    ensures told { AreToldBy ⟦<dyn View as View>⟧ hashed.new.store.network hashed.new.room watch.old watch.new }
 {
-    let _live = store.live_count();
-    let gate = store.remove(n);
-    keys.forget(n);
-    tell(views, visits, store, &Event::Deleted(n, gate), numbers);
+    let _live = hashed.store.live_count();
+    let gate = hashed.store.remove(n);
+    hashed.keys.forget(n);
+    watch.tell(&hashed.store, &Event::Deleted(n, gate), hashed.room);
 }
 
 /// Lets a gate give way to a signal: each reference reads the signal, the parents are marked as dirty, the gate goes, and the
 /// views are told each single change.
-pub(crate) fn replace(
-    store: &mut Store,
-    keys: &mut Keys,
-    views: &mut Vec<Option<Box<dyn View>>>,
-    visits: &mut Vec<u64>,
-    numbers: u32,
-    redirection: Redirection,
-)
-    requires gate { IsGateAt store.old.network redirection.from.0 }
-    requires live { IsLive store.old.network redirection.to.node.0 }
-    requires free { Depends store.old.network redirection.to redirection.from.0 → ⊥ }
-    requires room { StoreHasRoom store.old numbers }
-    requires indexed { IsIndexed store.old.network keys.old numbers }
-    requires fit { EachSlot (Fits spec_of kept room store.old.network numbers) views.old.items }
-    ensures network { store.new.network ≡ replaced store.old.network redirection.from.0 redirection.to }
-    ensures dirty { MarkedMore (λ m. In redirection.from.0 (fanin_nodes (entry_at store.old.network m))) (slice_set keys.old.dirty.items redirection.from.0 false) keys.new.dirty.items }
-    ensures indexed { IsIndexed store.new.network keys.new numbers }
-    ensures count { live_count store.new.network + 1 ≡ live_count store.old.network }
-    ensures room { StoreHasRoom store.new numbers }
-    ensures fit { EachSlot (Fits spec_of kept room store.new.network numbers) views.new.items }
-    ensures kept { SlotsKept (Kept kind_of spec_of room) views.old.items views.new.items }
+pub(crate) fn replace(hashed: &mut Hashed, watch: &mut Watch, redirection: Redirection)
+    requires gate { IsGateAt hashed.old.store.network redirection.from.0 }
+    requires live { IsLive hashed.old.store.network redirection.to.node.0 }
+    requires free { Depends hashed.old.store.network redirection.to redirection.from.0 → ⊥ }
+    requires midway { IsMidway hashed.old }
+    requires fit { AreFitBy ⟦<dyn View as View>⟧ hashed.old.store.network hashed.old.room watch.old }
+    ensures network { hashed.new.store.network ≡ replaced hashed.old.store.network redirection.from.0 redirection.to }
+    ensures dirty { MarkedMore (λ m. In redirection.from.0 (fanin_nodes (entry_at hashed.old.store.network m))) (slice_set hashed.old.keys.dirty.items redirection.from.0 false) hashed.new.keys.dirty.items }
+    ensures count { live_count hashed.new.store.network + 1 ≡ live_count hashed.old.store.network }
+    ensures midway { StaysMidway hashed.old hashed.new }
+    ensures told { AreToldBy ⟦<dyn View as View>⟧ hashed.new.store.network hashed.new.room watch.old watch.new }
 {
-    let _first = store.numbers();
-    redirect_gates(store, keys, views, visits, numbers, redirection);
-    redirect_outputs(store, redirection);
-    remove(store, keys, views, visits, numbers, redirection.from);
+    let _first = hashed.store.numbers();
+    redirect_gates(hashed, watch, redirection);
+    redirect_outputs(&mut hashed.store, redirection);
+    remove(hashed, watch, redirection.from);
 }

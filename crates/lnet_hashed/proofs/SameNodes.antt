@@ -1,5 +1,6 @@
 -- Networks of the same nodes: what views keep doesn't depend on the inputs and outputs.
-use Rattle.std.proofs.Common.{◌≡◌, ℕ, ◌+◌, ◌<◌, List, [], ◌∷◌, ◌++◌, length, IsSome, Option, None, Some, IfSome, option_map, slice_index_or, refl, sym, ap, subst, ◌∙◌, inl, inr}
+use Rattle.std.proofs.Common.{◌≡◌, ℕ, ◌+◌, ◌<◌, List, [], ◌∷◌, ◌++◌, length, IsSome, Option, None, Some, IfSome, option_map, slice_index_or, Global, refl, sym, ap, subst, ◌∙◌, inl, inr}
+use Rattle.std.specs.declared.dyn_box.DynBox.{DynBox}
 use Rattle.std.proofs.lemmas.Bool.Decides.{eqb_tells}
 use Rattle.lnet_model.specs.Networks.{NetworkValue, Input, IsLive, entry_at, gate_in, gate_at, live_count}
 use Rattle.lnet_model.specs.Along.{over}
@@ -12,7 +13,9 @@ use Rattle.lnet_hashed.proofs.Adding.{added-live, added-below, added-count}
 use Rattle.lnet_model.specs.Answers.{Answer, InStep, from_scratch}
 use Rattle.lnet_model.specs.declared.view_spec.ViewSpec.{ViewSpec}
 use Rattle.lnet_model.specs.declared.view_spec.ViewSpec.TheVariants.{Depth, Fanout, Cuts}
+use Rattle.lnet_hashed.specs.declared.watch.Watch.{Watch}
 use Rattle.lnet_hashed.specs.Views.{EachSlot, Fits}
+use Rattle.lnet_hashed.specs.Watches.{AreFit}
 
 -- N with other inputs
 abbrev pub with_inputs : NetworkValue → List ℕ → NetworkValue
@@ -32,7 +35,9 @@ pub step-same : (spec : Option ViewSpec) (kept : ℕ → Option Answer) (N : Net
 step-same spec kept N inputs h = record {
   asked = h.asked;
   attached = h.attached;
-  answers = λ n. h.answers n ∙ ap (λ x. option_map (λ _. x) (entry_at N n)) (sym (scratch-same h.asked N inputs n)) ∙ ap (option_map (λ _. from_scratch h.asked (with_inputs N inputs) n)) (sym (entry-same N inputs n));
+  answers =
+      λ n. h.answers n ∙ ap (λ x. option_map (λ _. x) (entry_at N n)) (sym (scratch-same h.asked N inputs n))
+      ∙ ap (option_map (λ _. from_scratch h.asked (with_inputs N inputs) n)) (sym (entry-same N inputs n));
 }
 
 pub dag-same : (N : NetworkValue) (inputs : List ℕ) → IsDag N → IsDag (with_inputs N inputs)
@@ -40,12 +45,20 @@ unfolding entry_at
 dag-same N inputs h = record { acyclic = h.acyclic; closed = h.closed; arities = h.arities }
 
 -- the slots fit a network with other inputs
-pub fits-same : {B : Type 0} (spec_of : B → Option ViewSpec) (kept : B → ℕ → Option Answer) (room : B → ℕ) (N : NetworkValue) (inputs : List ℕ) (numbers : ℕ) (slots : List (Option B)) → EachSlot (Fits spec_of kept room N numbers) slots → EachSlot (Fits spec_of kept room (with_inputs N inputs) numbers) slots
+fits-same :
+    {B : Type 0} (spec_of : B → Option ViewSpec) (kept : B → ℕ → Option Answer) (room : B → ℕ) (N : NetworkValue) (inputs : List ℕ) (numbers : ℕ) (slots : List (Option B)) →
+    EachSlot (Fits spec_of kept room N numbers) slots → EachSlot (Fits spec_of kept room (with_inputs N inputs) numbers) slots
 fits-same {B} spec_of kept room N inputs numbers slots h k = go (slice_index_or slots k None) (h k)
   where
     go : (slot : Option B) → IfSome slot (Fits spec_of kept room N numbers) → IfSome slot (Fits spec_of kept room (with_inputs N inputs) numbers)
     go None f = f
     go (Some b) f = record { in_step = step-same (spec_of b) (kept b) N inputs f.in_step; room_enough = f.room_enough }
+
+-- so do the views of a network
+pub fit-same :
+    {X : Type 0} {F : X → Type 0} (spec_of : DynBox X Global F → Option ViewSpec) (kept : DynBox X Global F → ℕ → Option Answer) (room : DynBox X Global F → ℕ) (N : NetworkValue) (inputs : List ℕ)
+    (numbers : ℕ) (w : Watch X F) → AreFit spec_of kept room N numbers w → AreFit spec_of kept room (with_inputs N inputs) numbers w
+fit-same spec_of kept room N inputs numbers w h = record { each = fits-same spec_of kept room N inputs numbers w.views.items h.each; counted = h.counted }
 
 -- ---- a new input
 

@@ -5,3 +5,4 @@ pub mod Indexed
 pub mod Rooms
 pub mod Undoing
 pub mod Swept
+pub mod Watches

@@ -44,3 +44,10 @@ pub record IsLeastEmpty {B : Type 0} (slots : List (Option B)) (id : ℕ) : Type
 -- only the slot `id` differs
 abbrev pub OthersSame : {B : Type 0} → List (Option B) → List (Option B) → ℕ → Type 0
 OthersSame old new id = (k : ℕ) → (k ≡ id → ⊥) → slice_index_or new k None ≡ slice_index_or old k None
+
+-- `new` is the view `old`, detached: of its kind, without an answer, and with no less room
+pub record IsDetachedFrom {B K : Type 0} (kind_of : B → K) (spec_of : B → Option ViewSpec) (kept : B → ℕ → Option Answer) (room : B → ℕ) (old new : B) : Type 0 where
+  pub kind : kind_of new ≡ kind_of old
+  pub detached : spec_of new ≡ None
+  pub no_answer : (n : ℕ) → kept new n ≡ None
+  pub room_grows : room old ≤ room new

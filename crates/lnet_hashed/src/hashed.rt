@@ -1,4 +1,5 @@
 //! A network's store under structural hashing, and its room.
+#![tactic(auto, using(crate::proofs::KeptViews::told_twice, crate::proofs::KeptViews::told_same))]
 
 ghost use Rattle.std.specs.Prelude.{◌≡◌, ◌≤◌, ◌<◌, ◌+◌, ◌↔◌, ℕ, Option, None, Some, IfOk, IfSome, OnOk, OnErr, length, cond, false, MatchOption, Err};
 ghost use Rattle.lnet_gates.specs.Gates.{GateValue, KeyValue};
@@ -11,12 +12,12 @@ ghost use Rattle.lnet_model.specs.Fanouts.{references};
 ghost use Rattle.lnet_model.specs.Dags.{AreBelow, NUMBERS};
 ghost use Rattle.lnet_store.specs.StoreValues.{first_network, with_input};
 ghost use Rattle.lnet_hashed.specs.Strashed.{same_op, same_signals, same_key, key_of, found, least_free, HoldsKey};
-ghost use Rattle.lnet_hashed.specs.Views.{EachSlot, Fits, Kept, SlotKept, SlotsKept};
+ghost use Rattle.lnet_hashed.specs.Watches.{AreFitBy, AreToldBy};
 ghost use Rattle.lnet_hashed.specs.Rooms.{HasRoom};
 
 use crate::keys::{Keys, lengthen};
 use crate::making::gate_of;
-use crate::telling::{reserve_all, tell};
+use crate::watch::Watch;
 use lnet_gates::{Gate, Key, Node, Op, Signal};
 use lnet_store::{AddError, Event, Store, View};
 use std::alloc::{AllocError, Global};
@@ -120,39 +121,32 @@ pub(crate) fn find(hashed: &Hashed, key: &Key) -> Option<Signal>
 }
 
 /// Gets memory for `numbers` numbers in the store, for keys and marks, and in each view.
-pub fn reserve(
-    hashed: &mut Hashed,
-    views: &mut Vec<Option<Box<dyn View>>>,
-    numbers: u32,
-) -> Result<(), AllocError>
+pub fn reserve(hashed: &mut Hashed, watch: &mut Watch, numbers: u32) -> Result<(), AllocError>
     requires room { HasRoom hashed.old }
     requires more { hashed.old.room ≤ numbers }
     requires limit { numbers ≤ NUMBERS }
-    requires fit { EachSlot (Fits spec_of kept room hashed.old.store.network hashed.old.room) views.old.items }
+    requires fit { AreFitBy ⟦<dyn View as View>⟧ hashed.old.store.network hashed.old.room watch.old }
     ensures network { hashed.new.store.network ≡ hashed.old.store.network }
     ensures stamp { hashed.new.store.stamp ≡ hashed.old.store.stamp }
     ensures room { HasRoom hashed.new }
     ensures grown { OnOk result (hashed.new.room ≡ numbers) }
     ensures refused { OnErr result (hashed.new.room ≡ hashed.old.room) }
-    ensures fit { EachSlot (Fits spec_of kept room hashed.new.store.network hashed.new.room) views.new.items }
-    ensures kept { SlotsKept (Kept kind_of spec_of room) views.old.items views.new.items }
+    ensures visits { watch.new.visits.items ≡ watch.old.visits.items }
+    ensures told { AreToldBy ⟦<dyn View as View>⟧ hashed.new.store.network hashed.new.room watch.old watch.new }
 {
     let live = hashed.store.live_count();
     hashed.store.reserve(numbers.saturating_sub(live))?;
     hashed.keys.reserve(numbers)?;
     lengthen(&mut hashed.named, numbers as usize)?;
-    reserve_all(views, &hashed.store, hashed.room, numbers)?;
+    watch.reserve(&hashed.store, hashed.room, numbers)?;
     hashed.room = numbers;
     Ok(())
 }
 
 /// Gets memory for one more number, where there is none: for twice as many numbers as before.
-pub(crate) fn make_room(
-    hashed: &mut Hashed,
-    views: &mut Vec<Option<Box<dyn View>>>,
-) -> Result<(), AddError>
+pub(crate) fn make_room(hashed: &mut Hashed, watch: &mut Watch) -> Result<(), AddError>
     requires room { HasRoom hashed.old }
-    requires fit { EachSlot (Fits spec_of kept room hashed.old.store.network hashed.old.room) views.old.items }
+    requires fit { AreFitBy ⟦<dyn View as View>⟧ hashed.old.store.network hashed.old.room watch.old }
     ensures network { hashed.new.store.network ≡ hashed.old.store.network }
     ensures stamp { hashed.new.store.stamp ≡ hashed.old.store.stamp }
     ensures room { HasRoom hashed.new }
@@ -161,9 +155,8 @@ pub(crate) fn make_room(
     ensures enough { live_count hashed.old.store.network < hashed.old.room → hashed.new.room ≡ hashed.old.room }
     ensures refused { OnErr result (hashed.new.room ≡ hashed.old.room) }
     ensures full { (result ≡ Err AddError.Full) ↔ (live_count hashed.old.store.network ≡ NUMBERS) }
-    ensures memory { result ≡ Err AddError.NoMemory → hashed.old.room ≤ live_count hashed.old.store.network }
-    ensures fit { EachSlot (Fits spec_of kept room hashed.new.store.network hashed.new.room) views.new.items }
-    ensures kept { SlotsKept (Kept kind_of spec_of room) views.old.items views.new.items }
+    ensures memory { result ≡ Err AddError.NoMemory → (hashed.old.room ≤ live_count hashed.old.store.network) × (live_count hashed.old.store.network < NUMBERS) }
+    ensures told { AreToldBy ⟦<dyn View as View>⟧ hashed.new.store.network hashed.new.room watch.old watch.new }
 {
     let live = hashed.store.live_count();
     if live < hashed.room {
@@ -173,24 +166,19 @@ pub(crate) fn make_room(
         return Err(AddError::Full);
     }
     let numbers = (2 * live).min(LIMIT);
-    match reserve(hashed, views, numbers) {
+    match reserve(hashed, watch, numbers) {
         Ok(()) => Ok(()),
         Err(_) => Err(AddError::NoMemory),
     }
 }
 
 /// Adds a gate of the key, which no gate has, of phase false, under the least free number, and tells the views.
-pub(crate) fn add_key(
-    hashed: &mut Hashed,
-    views: &mut Vec<Option<Box<dyn View>>>,
-    visits: &mut Vec<u64>,
-    key: Key,
-) -> Result<Node, AddError>
+pub(crate) fn add_key(hashed: &mut Hashed, watch: &mut Watch, key: Key) -> Result<Node, AddError>
     requires room { HasRoom hashed.old }
     requires live { AreLive hashed.old.store.network (nodes_read key.fanins) }
     requires arity { Takes key.op (length key.fanins) }
     requires absent { found hashed.old.store.network key ≡ None }
-    requires fit { EachSlot (Fits spec_of kept room hashed.old.store.network hashed.old.room) views.old.items }
+    requires fit { AreFitBy ⟦<dyn View as View>⟧ hashed.old.store.network hashed.old.room watch.old }
     ensures node { IfOk result (λ n. n.0 ≡ least_free hashed.old.store.network) }
     ensures network { IfOk result (λ n. hashed.new.store.network ≡ with_entry hashed.old.store.network n.0 (IsGate (keyed_gate key false))) }
     ensures live { IfOk result (λ n. IsLive hashed.new.store.network n.0) }
@@ -198,17 +186,16 @@ pub(crate) fn add_key(
     ensures grows { hashed.old.room ≤ hashed.new.room }
     ensures refused { OnErr result ((hashed.new.store.network ≡ hashed.old.store.network) × (hashed.new.store.stamp ≡ hashed.old.store.stamp)) }
     ensures full { (result ≡ Err AddError.Full) ↔ (live_count hashed.old.store.network ≡ NUMBERS) }
-    ensures memory { result ≡ Err AddError.NoMemory → hashed.old.room ≤ live_count hashed.old.store.network }
-    ensures fit { EachSlot (Fits spec_of kept room hashed.new.store.network hashed.new.room) views.new.items }
-    ensures kept { SlotsKept (Kept kind_of spec_of room) views.old.items views.new.items }
+    ensures memory { result ≡ Err AddError.NoMemory → (hashed.old.room ≤ live_count hashed.old.store.network) × (live_count hashed.old.store.network < NUMBERS) }
+    ensures told { AreToldBy ⟦<dyn View as View>⟧ hashed.new.store.network hashed.new.room watch.old watch.new }
 {
-    make_room(hashed, views)?;
+    make_room(hashed, watch)?;
     let _live = hashed.store.live_count();
     let gate = gate_of(&key, false);
     match hashed.store.add(gate) {
         Ok(n) => {
             hashed.keys.enter(key, n, false);
-            tell(views, visits, &hashed.store, &Event::Added(n), hashed.room);
+            watch.tell(&hashed.store, &Event::Added(n), hashed.room);
             Ok(n)
         }
         Err(error) => Err(error),
@@ -216,57 +203,41 @@ pub(crate) fn add_key(
 }
 
 /// Removes a gate that nothing names, and tells the views.
-pub fn remove(
-    hashed: &mut Hashed,
-    views: &mut Vec<Option<Box<dyn View>>>,
-    visits: &mut Vec<u64>,
-    n: Node,
-)
+pub fn remove(hashed: &mut Hashed, watch: &mut Watch, n: Node)
     requires gate { IsGateAt hashed.old.store.network n.0 }
     requires free { references hashed.old.store.network n.0 ≡ 0 }
     requires room { HasRoom hashed.old }
-    requires fit { EachSlot (Fits spec_of kept room hashed.old.store.network hashed.old.room) views.old.items }
+    requires fit { AreFitBy ⟦<dyn View as View>⟧ hashed.old.store.network hashed.old.room watch.old }
     ensures network { hashed.new.store.network ≡ without hashed.old.store.network n.0 }
     ensures room { HasRoom hashed.new }
     ensures same { hashed.new.room ≡ hashed.old.room }
-    ensures fit { EachSlot (Fits spec_of kept room hashed.new.store.network hashed.new.room) views.new.items }
-    ensures kept { SlotsKept (Kept kind_of spec_of room) views.old.items views.new.items }
+    ensures named { hashed.new.named ≡ hashed.old.named }
+    ensures told { AreToldBy ⟦<dyn View as View>⟧ hashed.new.store.network hashed.new.room watch.old watch.new }
 {
     let _live = hashed.store.live_count();
     let gate = hashed.store.remove(n);
     hashed.keys.forget(n);
-    tell(
-        views,
-        visits,
-        &hashed.store,
-        &Event::Deleted(n, gate),
-        hashed.room,
-    );
+    watch.tell(&hashed.store, &Event::Deleted(n, gate), hashed.room);
 }
 
 /// Adds an input under the least free number, and tells the views.
-pub fn add_input(
-    hashed: &mut Hashed,
-    views: &mut Vec<Option<Box<dyn View>>>,
-    visits: &mut Vec<u64>,
-) -> Result<Node, AddError>
+pub fn add_input(hashed: &mut Hashed, watch: &mut Watch) -> Result<Node, AddError>
     requires room { HasRoom hashed.old }
-    requires fit { EachSlot (Fits spec_of kept room hashed.old.store.network hashed.old.room) views.old.items }
+    requires fit { AreFitBy ⟦<dyn View as View>⟧ hashed.old.store.network hashed.old.room watch.old }
     ensures node { IfOk result (λ n. n.0 ≡ least_free hashed.old.store.network) }
     ensures network { IfOk result (λ n. hashed.new.store.network ≡ with_input hashed.old.store.network n.0) }
     ensures room { HasRoom hashed.new }
     ensures grows { hashed.old.room ≤ hashed.new.room }
     ensures refused { OnErr result ((hashed.new.store.network ≡ hashed.old.store.network) × (hashed.new.store.stamp ≡ hashed.old.store.stamp)) }
     ensures full { (result ≡ Err AddError.Full) ↔ (live_count hashed.old.store.network ≡ NUMBERS) }
-    ensures memory { result ≡ Err AddError.NoMemory → hashed.old.room ≤ live_count hashed.old.store.network }
-    ensures fit { EachSlot (Fits spec_of kept room hashed.new.store.network hashed.new.room) views.new.items }
-    ensures kept { SlotsKept (Kept kind_of spec_of room) views.old.items views.new.items }
+    ensures memory { result ≡ Err AddError.NoMemory → (hashed.old.room ≤ live_count hashed.old.store.network) × (live_count hashed.old.store.network < NUMBERS) }
+    ensures told { AreToldBy ⟦<dyn View as View>⟧ hashed.new.store.network hashed.new.room watch.old watch.new }
 {
-    make_room(hashed, views)?;
+    make_room(hashed, watch)?;
     let _live = hashed.store.live_count();
     match hashed.store.add_input() {
         Ok(n) => {
-            tell(views, visits, &hashed.store, &Event::Added(n), hashed.room);
+            watch.tell(&hashed.store, &Event::Added(n), hashed.room);
             Ok(n)
         }
         Err(error) => Err(error),

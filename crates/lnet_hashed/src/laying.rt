@@ -1,6 +1,7 @@
 //! Laying the steps of recipes, and taking them back where one is refused.
+#![tactic(auto, using(crate::proofs::KeptViews::told_twice, crate::proofs::KeptViews::told_same))]
 
-ghost use Rattle.std.specs.Prelude.{◌≡◌, ◌≤◌, ◌<◌, ◌+◌, [], ◌∷◌, ◌++◌, ℕ, List, IfOk, OnOk, OnErr, IsTrue, reverse, length, false, Err};
+ghost use Rattle.std.specs.Prelude.{◌≡◌, ◌≤◌, ◌<◌, ◌+◌, [], ◌∷◌, ◌++◌, ℕ, List, IfOk, OnOk, OnErr, IsTrue, reverse, length, false, Err, min};
 ghost use Rattle.lnet_tables.specs.declared.step.Step.{Step as StepValue};
 ghost use Rattle.lnet_gates.specs.Natives.{IsNativeGate};
 ghost use Rattle.lnet_gates.specs.Operands.{constant};
@@ -12,11 +13,12 @@ ghost use Rattle.lnet_model.specs.Dags.{NUMBERS};
 ghost use Rattle.lnet_hashed.specs.Strashed.{placed};
 ghost use Rattle.lnet_hashed.specs.Laid.{laid, laid_steps, signal_at as signal_of_literal, operands_at, step_gate as gate_of_step};
 ghost use Rattle.lnet_hashed.specs.Undoing.{undone, IsUndoable};
-ghost use Rattle.lnet_hashed.specs.Views.{EachSlot, Fits, Kept, SlotsKept};
+ghost use Rattle.lnet_hashed.specs.Watches.{AreFitBy, AreToldBy};
 ghost use Rattle.lnet_hashed.specs.Rooms.{HasRoom};
 
 use crate::hashed::{Hashed, remove};
 use crate::placing::place;
+use crate::watch::Watch;
 use arrayvec::ArrayVec;
 use lnet_gates::{Gate, Gates, Node, Op, Signal};
 use lnet_store::{AddError, View};
@@ -64,32 +66,25 @@ fn step_gate(places: &[Signal], step: &Step) -> Gate
 }
 
 /// Takes back the nodes that were added, the last one first.
-fn undo(
-    hashed: &mut Hashed,
-    views: &mut Vec<Option<Box<dyn View>>>,
-    visits: &mut Vec<u64>,
-    added: ArrayVec<Node, 128>,
-)
+fn undo(hashed: &mut Hashed, watch: &mut Watch, added: ArrayVec<Node, 128>)
     requires undoable { IsUndoable (reverse added.items) hashed.old.store.network }
     requires room { HasRoom hashed.old }
-    requires fit { EachSlot (Fits spec_of kept room hashed.old.store.network hashed.old.room) views.old.items }
+    requires fit { AreFitBy ⟦<dyn View as View>⟧ hashed.old.store.network hashed.old.room watch.old }
     ensures network { hashed.new.store.network ≡ undone (reverse added.items) hashed.old.store.network }
     ensures room { HasRoom hashed.new }
     ensures same { hashed.new.room ≡ hashed.old.room }
-    ensures fit { EachSlot (Fits spec_of kept room hashed.new.store.network hashed.new.room) views.new.items }
-    ensures kept { SlotsKept (Kept kind_of spec_of room) views.old.items views.new.items }
+    ensures told { AreToldBy ⟦<dyn View as View>⟧ hashed.new.store.network hashed.new.room watch.old watch.new }
 {
     let mut added = added;
     while let Some(n) = added.pop() {
-        remove(hashed, views, visits, n);
+        remove(hashed, watch, n);
     }
 }
 
 /// Places a gate, and notes its node where it is new.
 fn place_noting<G: Gates>(
     hashed: &mut Hashed,
-    views: &mut Vec<Option<Box<dyn View>>>,
-    visits: &mut Vec<u64>,
+    watch: &mut Watch,
     added: &mut ArrayVec<Node, 128>,
     gate: &Gate,
 ) -> Result<Signal, AddError>
@@ -98,7 +93,7 @@ fn place_noting<G: Gates>(
     requires undoable { IsUndoable (reverse added.old.items) hashed.old.store.network }
     requires few { length added.old.items < 128 }
     requires room { HasRoom hashed.old }
-    requires fit { EachSlot (Fits spec_of kept room hashed.old.store.network hashed.old.room) views.old.items }
+    requires fit { AreFitBy ⟦<dyn View as View>⟧ hashed.old.store.network hashed.old.room watch.old }
     ensures placed { IfOk result (λ s. placed G.form hashed.old.store.network gate.now ≡ record { network = hashed.new.store.network; signal = s }) }
     ensures live { IfOk result (λ s. IsLive hashed.new.store.network s.node.0) }
     ensures lives { (m : ℕ) → IsLive hashed.old.store.network m → IsLive hashed.new.store.network m }
@@ -108,12 +103,11 @@ fn place_noting<G: Gates>(
     ensures room { HasRoom hashed.new }
     ensures grows { hashed.old.room ≤ hashed.new.room }
     ensures full { result ≡ Err AddError.Full → NUMBERS < live_count (placed G.form hashed.old.store.network gate.now).network }
-    ensures memory { result ≡ Err AddError.NoMemory → hashed.old.room < live_count (placed G.form hashed.old.store.network gate.now).network }
-    ensures fit { EachSlot (Fits spec_of kept room hashed.new.store.network hashed.new.room) views.new.items }
-    ensures kept { SlotsKept (Kept kind_of spec_of room) views.old.items views.new.items }
+    ensures memory { result ≡ Err AddError.NoMemory → hashed.old.room < min NUMBERS (live_count (placed G.form hashed.old.store.network gate.now).network) }
+    ensures told { AreToldBy ⟦<dyn View as View>⟧ hashed.new.store.network hashed.new.room watch.old watch.new }
 {
     let before = hashed.store.live_count();
-    match place::<G>(hashed, views, visits, gate) {
+    match place::<G>(hashed, watch, gate) {
         Ok(signal) => {
             if before < hashed.store.live_count() {
                 added.push(signal.node);
@@ -127,8 +121,7 @@ fn place_noting<G: Gates>(
 /// Lays a step: places its gate, and adds the place.
 fn lay_step<G: Gates>(
     hashed: &mut Hashed,
-    views: &mut Vec<Option<Box<dyn View>>>,
-    visits: &mut Vec<u64>,
+    watch: &mut Watch,
     laying: &mut Laying,
     step: &Step,
 ) -> Result<(), AddError>
@@ -138,7 +131,7 @@ fn lay_step<G: Gates>(
     requires few { length laying.old.added.items < 128 }
     requires few_places { length laying.old.places.items < 256 }
     requires room { HasRoom hashed.old }
-    requires fit { EachSlot (Fits spec_of kept room hashed.old.store.network hashed.old.room) views.old.items }
+    requires fit { AreFitBy ⟦<dyn View as View>⟧ hashed.old.store.network hashed.old.room watch.old }
     ensures laid { OnOk result ((ss : List StepValue) → laid_steps G.form (step.now ∷ ss) hashed.old.store.network laying.old.places.items ≡ laid_steps G.form ss hashed.new.store.network laying.new.places.items) }
     ensures live { AreLive hashed.new.store.network (nodes_read laying.new.places.items) }
     ensures few { length laying.new.added.items ≤ length laying.old.added.items + 1 }
@@ -148,13 +141,12 @@ fn lay_step<G: Gates>(
     ensures room { HasRoom hashed.new }
     ensures grows { hashed.old.room ≤ hashed.new.room }
     ensures full { result ≡ Err AddError.Full → (ss : List StepValue) → NUMBERS < live_count (laid_steps G.form (step.now ∷ ss) hashed.old.store.network laying.old.places.items).network }
-    ensures memory { result ≡ Err AddError.NoMemory → (ss : List StepValue) → hashed.old.room < live_count (laid_steps G.form (step.now ∷ ss) hashed.old.store.network laying.old.places.items).network }
-    ensures fit { EachSlot (Fits spec_of kept room hashed.new.store.network hashed.new.room) views.new.items }
-    ensures kept { SlotsKept (Kept kind_of spec_of room) views.old.items views.new.items }
+    ensures memory { result ≡ Err AddError.NoMemory → (ss : List StepValue) → hashed.old.room < min NUMBERS (live_count (laid_steps G.form (step.now ∷ ss) hashed.old.store.network laying.old.places.items).network) }
+    ensures told { AreToldBy ⟦<dyn View as View>⟧ hashed.new.store.network hashed.new.room watch.old watch.new }
 {
     let _live = hashed.store.live_count();
     let gate = step_gate(laying.places.as_slice(), step);
-    match place_noting::<G>(hashed, views, visits, &mut laying.added, &gate) {
+    match place_noting::<G>(hashed, watch, &mut laying.added, &gate) {
         Ok(signal) => {
             laying.places.push(signal);
             Ok(())
@@ -184,8 +176,7 @@ fn begin(leaves: &[Signal]) -> Laying
 /// the signal of its root. Refused, it takes back what it added.
 pub fn lay<G: Gates>(
     hashed: &mut Hashed,
-    views: &mut Vec<Option<Box<dyn View>>>,
-    visits: &mut Vec<u64>,
+    watch: &mut Watch,
     recipe: &Recipe,
     leaves: &[Signal],
 ) -> Result<Signal, AddError>
@@ -193,22 +184,21 @@ pub fn lay<G: Gates>(
     requires live { AreLive hashed.old.store.network (nodes_read leaves.now) }
     requires few { length leaves.now ≤ 10 }
     requires room { HasRoom hashed.old }
-    requires fit { EachSlot (Fits spec_of kept room hashed.old.store.network hashed.old.room) views.old.items }
+    requires fit { AreFitBy ⟦<dyn View as View>⟧ hashed.old.store.network hashed.old.room watch.old }
     ensures laid { IfOk result (λ s. laid G.form hashed.old.store.network recipe.now leaves.now ≡ record { network = hashed.new.store.network; signal = s }) }
     ensures refused { OnErr result (hashed.new.store.network ≡ hashed.old.store.network) }
     ensures room { HasRoom hashed.new }
     ensures grows { hashed.old.room ≤ hashed.new.room }
     ensures full { result ≡ Err AddError.Full → NUMBERS < live_count (laid G.form hashed.old.store.network recipe.now leaves.now).network }
-    ensures memory { result ≡ Err AddError.NoMemory → hashed.old.room < live_count (laid G.form hashed.old.store.network recipe.now leaves.now).network }
-    ensures fit { EachSlot (Fits spec_of kept room hashed.new.store.network hashed.new.room) views.new.items }
-    ensures kept { SlotsKept (Kept kind_of spec_of room) views.old.items views.new.items }
+    ensures memory { result ≡ Err AddError.NoMemory → hashed.old.room < min NUMBERS (live_count (laid G.form hashed.old.store.network recipe.now leaves.now).network) }
+    ensures told { AreToldBy ⟦<dyn View as View>⟧ hashed.new.store.network hashed.new.room watch.old watch.new }
 {
     let _live = hashed.store.live_count();
     let mut laying = begin(leaves);
     for i in 0..recipe.len() {
         let step = recipe.step(i);
-        if let Err(error) = lay_step::<G>(hashed, views, visits, &mut laying, &step) {
-            undo(hashed, views, visits, laying.added);
+        if let Err(error) = lay_step::<G>(hashed, watch, &mut laying, &step) {
+            undo(hashed, watch, laying.added);
             return Err(error);
         }
     }

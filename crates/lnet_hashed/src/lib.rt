@@ -27,6 +27,7 @@ mod placing;
 mod subscribing;
 mod sweeping;
 mod telling;
+mod watch;
 
 pub use hashed::{Hashed, add_input, held, remove, reserve};
 pub use keys::Keys;
@@ -34,9 +35,8 @@ pub use laying::lay;
 pub use levels::depth;
 pub use making::{gate_of, make};
 pub use placing::place;
-pub use subscribing::{subscribe, unsubscribe, view, visits_of};
 pub use sweeping::sweep;
-pub use telling::tell;
+pub use watch::Watch;
 
 /// An operation that is made on live operands computes the operation, and nothing that was live changes. A network whose
 /// gates are hashed stays so.

@@ -1,6 +1,7 @@
 //! Making operations of signals, by the plan of the kind.
+#![tactic(auto, using(crate::proofs::KeptViews::told_twice, crate::proofs::KeptViews::told_same))]
 
-ghost use Rattle.std.specs.Prelude.{◌≡◌, ◌≤◌, ◌<◌, IfOk, OnErr, length, false, Err};
+ghost use Rattle.std.specs.Prelude.{◌≡◌, ◌≤◌, ◌<◌, IfOk, OnErr, length, false, Err, min};
 ghost use Rattle.lnet_gates.specs.NormalLaws.{keyed_gate};
 ghost use Rattle.lnet_gates.specs.Plans.{Takes};
 ghost use Rattle.lnet_model.specs.Networks.{live_count};
@@ -8,12 +9,13 @@ ghost use Rattle.lnet_model.specs.Along.{nodes_read};
 ghost use Rattle.lnet_model.specs.Changes.{AreLive};
 ghost use Rattle.lnet_model.specs.Dags.{NUMBERS};
 ghost use Rattle.lnet_hashed.specs.Laid.{made};
-ghost use Rattle.lnet_hashed.specs.Views.{EachSlot, Fits, Kept, SlotsKept};
+ghost use Rattle.lnet_hashed.specs.Watches.{AreFitBy, AreToldBy};
 ghost use Rattle.lnet_hashed.specs.Rooms.{HasRoom};
 
 use crate::hashed::Hashed;
 use crate::laying::lay;
 use crate::placing::place;
+use crate::watch::Watch;
 use arrayvec::ArrayVec;
 use lnet_gates::{Gate, Gates, Key, Op, Plan, Signal};
 use lnet_store::{AddError, View};
@@ -47,29 +49,27 @@ pub fn gate_of(key: &Key, phase: bool) -> Gate
 /// steps of its plan. Refused, it takes back what it added.
 pub fn make<G: Gates>(
     hashed: &mut Hashed,
-    views: &mut Vec<Option<Box<dyn View>>>,
-    visits: &mut Vec<u64>,
+    watch: &mut Watch,
     op: Op,
     operands: &[Signal],
 ) -> Result<Signal, AddError>
     requires arity { Takes op (length operands.now) }
     requires live { AreLive hashed.old.store.network (nodes_read operands.now) }
     requires room { HasRoom hashed.old }
-    requires fit { EachSlot (Fits spec_of kept room hashed.old.store.network hashed.old.room) views.old.items }
+    requires fit { AreFitBy ⟦<dyn View as View>⟧ hashed.old.store.network hashed.old.room watch.old }
     ensures made { IfOk result (λ s. made G.KIND G.form hashed.old.store.network op operands.now ≡ record { network = hashed.new.store.network; signal = s }) }
     ensures refused { OnErr result (hashed.new.store.network ≡ hashed.old.store.network) }
     ensures room { HasRoom hashed.new }
     ensures grows { hashed.old.room ≤ hashed.new.room }
     ensures full { result ≡ Err AddError.Full → NUMBERS < live_count (made G.KIND G.form hashed.old.store.network op operands.now).network }
-    ensures memory { result ≡ Err AddError.NoMemory → hashed.old.room < live_count (made G.KIND G.form hashed.old.store.network op operands.now).network }
-    ensures fit { EachSlot (Fits spec_of kept room hashed.new.store.network hashed.new.room) views.new.items }
-    ensures kept { SlotsKept (Kept kind_of spec_of room) views.old.items views.new.items }
+    ensures memory { result ≡ Err AddError.NoMemory → hashed.old.room < min NUMBERS (live_count (made G.KIND G.form hashed.old.store.network op operands.now).network) }
+    ensures told { AreToldBy ⟦<dyn View as View>⟧ hashed.new.store.network hashed.new.room watch.old watch.new }
 {
     match G::plan(&op, operands.len() as u8) {
         Plan::Native => {
             let gate = gate_on(op, operands);
-            place::<G>(hashed, views, visits, &gate)
+            place::<G>(hashed, watch, &gate)
         }
-        Plan::Steps(recipe) => lay::<G>(hashed, views, visits, &recipe, operands),
+        Plan::Steps(recipe) => lay::<G>(hashed, watch, &recipe, operands),
     }
 }

@@ -2,8 +2,10 @@
 
 ghost use Rattle.std.specs.Prelude.{◌≡◌, ◌+◌, ◌≤◌, ◌<◌, max, ℕ, None, Some, IfOk, IfErr, IfSome, IsSome, IsSomeAnd, OnOk, OnErr, ◌↔◌, length, slice_index_or, option_map, vec_len, vec_capacity};
 ghost use Rattle.lnet_model.specs.Answers.{IsSpec, kind_for};
-ghost use Rattle.lnet_hashed.specs.Views.{EachSlot, Fits, StandsAs, IsLeastEmpty, OthersSame};
+ghost use Rattle.lnet_hashed.specs.Views.{Fits, StandsAs, IsLeastEmpty, OthersSame, IsDetachedFrom};
+ghost use Rattle.lnet_hashed.specs.Watches.{AreFitBy, IsSeated, IsUnchanged};
 
+use crate::watch::Watch;
 use lnet_model::ViewSpec;
 use lnet_store::{Store, View};
 use std::alloc::AllocError;
@@ -31,22 +33,6 @@ fn reserve_place<T: Drop>(items: &mut Vec<T>, id: usize) -> Result<(), AllocErro
         return Ok(());
     }
     items.reserve(1)
-}
-
-/// Gets memory for the slot `id` and its visits. Whatever it answers, the slots and visits are as before.
-fn reserve_places(
-    views: &mut Vec<Option<Box<dyn View>>>,
-    visits: &mut Vec<u64>,
-    id: usize,
-) -> Result<(), AllocError>
-    ensures same { views.new.items ≡ views.old.items }
-    ensures same_visits { visits.new.items ≡ visits.old.items }
-    ensures room { OnOk result (vec_len views.new ≤ id → vec_len views.new < vec_capacity views.new) }
-    ensures room_visits { OnOk result (vec_len visits.new ≤ id → vec_len visits.new < vec_capacity visits.new) }
-{
-    reserve_place(views, id)?;
-    reserve_place(visits, id)?;
-    Ok(())
 }
 
 /// Puts the view into the slot `id`, which may be the next one.
@@ -95,7 +81,8 @@ fn attach_to(
     ensures fit { OnOk result (Fits spec_of kept room store.now.network numbers view.new) }
     ensures stands { OnOk result (StandsAs kind_of spec_of (kind_of view.old) spec view.new) }
     ensures kind { kind_of view.new ≡ kind_of view.old }
-    ensures refused { OnErr result (spec_of view.new ≡ None) }
+    ensures grows { room view.old ≤ room view.new }
+    ensures refused { OnErr result (IsDetachedFrom kind_of spec_of kept room view.old view.new) }
 {
     view.attach(store, spec)?;
     match view.reserve(numbers) {
@@ -107,75 +94,81 @@ fn attach_to(
     }
 }
 
-/// Attaches the detached view for a spec of its kind, with memory for `numbers` numbers, and puts it into the least empty
-/// slot, whose number is its id; its visits are 0. Refused for want of memory, it gives the view back, detached, and the
-/// slots and visits are as before. Linear in the slots, beside what attaching costs.
-pub fn subscribe(
-    views: &mut Vec<Option<Box<dyn View>>>,
-    visits: &mut Vec<u64>,
-    store: &Store,
-    numbers: u32,
-    mut view: Box<dyn View>,
-    spec: ViewSpec,
-) -> Result<usize, (Box<dyn View>, AllocError)>
-    requires detached { spec_of view ≡ None }
-    requires of_kind { kind_for spec ≡ kind_of view }
-    requires rule { IsSpec spec }
-    requires fit { EachSlot (Fits spec_of kept room store.now.network numbers) views.old.items }
-    ensures fit { EachSlot (Fits spec_of kept room store.now.network numbers) views.new.items }
-    ensures id { IfOk result (λ id. IsLeastEmpty views.old.items id) }
-    ensures stands { IfOk result (λ id. IsSomeAnd (slice_index_or views.new.items id None) (StandsAs kind_of spec_of (kind_of view) spec)) }
-    ensures others { IfOk result (λ id. OthersSame views.old.items views.new.items id) }
-    ensures unread { IfOk result (λ id. slice_index_or visits.new.items id 0 ≡ 0) }
-    ensures visits { IfOk result (λ id. (k : ℕ) → (k ≡ id → ⊥) → slice_index_or visits.new.items k 0 ≡ slice_index_or visits.old.items k 0) }
-    ensures len { IfOk result (λ id. length views.new.items ≡ max (length views.old.items) (id + 1)) }
-    ensures sized { length visits.old.items ≡ length views.old.items → length visits.new.items ≡ length views.new.items }
-    ensures same { OnErr result (views.new.items ≡ views.old.items) }
-    ensures same_visits { OnErr result (visits.new.items ≡ visits.old.items) }
-    ensures back { IfErr result (λ e. (spec_of e.0 ≡ None) × (kind_of e.0 ≡ kind_of view)) }
+/// Detaches the view.
+fn detach(view: &mut Box<dyn View>)
+    ensures { IsDetachedFrom kind_of spec_of kept room view.old view.new }
 {
-    let id = least_empty(views);
-    if let Err(error) = reserve_places(views, visits, id) {
-        return Err((view, error));
-    }
-    if let Err(error) = attach_to(&mut view, store, numbers, spec) {
-        return Err((view, error));
-    }
-    put(views, id, view);
-    restart(visits, id);
-    Ok(id)
-}
-
-/// Takes the view out of its slot, detached; `None` exactly where the slot is empty or there is none. It takes no memory.
-/// Constant time, beside the drop of the view's answers.
-pub fn unsubscribe(views: &mut Vec<Option<Box<dyn View>>>, id: usize) -> Option<Box<dyn View>>
-    ensures some { IsSome result ↔ IsSome (slice_index_or views.old.items id None) }
-    ensures detached { IfSome result (λ b. spec_of b ≡ None) }
-    ensures kind { option_map kind_of result ≡ option_map kind_of (slice_index_or views.old.items id None) }
-    ensures empty { slice_index_or views.new.items id None ≡ None }
-    ensures others { OthersSame views.old.items views.new.items id }
-    ensures sized { length views.new.items ≡ length views.old.items }
-{
-    let mut view = views.get_mut(id)?.take()?;
     view.detach();
-    Some(view)
 }
 
-/// The view of a slot; `None` exactly where the slot is empty or there is none. Constant time.
-pub fn view(views: &Vec<Option<Box<dyn View>>>, id: usize) -> Option<&Box<dyn View>>
-    ensures { option_map (λ b. b.now) result ≡ slice_index_or views.now.items id None }
-{
-    match views.get(id) {
-        Some(Some(view)) => Some(view),
-        _ => None,
+impl Watch {
+    /// Gets memory for the slot `id` and its visits. Whatever it answers, the slots and visits are as before.
+    fn reserve_places(&mut self, id: usize) -> Result<(), AllocError>
+        ensures same { self.new.views.items ≡ self.old.views.items }
+        ensures same_visits { self.new.visits.items ≡ self.old.visits.items }
+        ensures room { OnOk result (vec_len self.new.views ≤ id → vec_len self.new.views < vec_capacity self.new.views) }
+        ensures room_visits { OnOk result (vec_len self.new.visits ≤ id → vec_len self.new.visits < vec_capacity self.new.visits) }
+    {
+        reserve_place(&mut self.views, id)?;
+        reserve_place(&mut self.visits, id)?;
+        Ok(())
     }
-}
 
-/// How often the view of a slot read the network at the last event; `None` exactly where the slot is empty or there is none.
-/// Constant time.
-pub fn visits_of(views: &Vec<Option<Box<dyn View>>>, visits: &Vec<u64>, id: usize) -> Option<u64>
-    ensures { result ≡ option_map (λ _. slice_index_or visits.now.items id 0) (slice_index_or views.now.items id None) }
-{
-    view(views, id)?;
-    Some(visits.get(id).copied().unwrap_or(0))
+    /// Attaches the detached view for a spec of its kind, with memory for `numbers` numbers, and puts it into the least empty
+    /// slot, whose number is its id; its visits are 0. Refused for want of memory, it gives the view back, detached, and the
+    /// slots and visits are as before. Linear in the slots, beside what attaching costs.
+    pub fn subscribe(
+        &mut self,
+        store: &Store,
+        numbers: u32,
+        mut view: Box<dyn View>,
+        spec: ViewSpec,
+    ) -> Result<usize, (Box<dyn View>, AllocError)>
+        requires detached { spec_of view ≡ None }
+        requires of_kind { kind_for spec ≡ kind_of view }
+        requires rule { IsSpec spec }
+        requires fit { AreFitBy ⟦<dyn View as View>⟧ store.now.network numbers self.old }
+        ensures fit { AreFitBy ⟦<dyn View as View>⟧ store.now.network numbers self.new }
+        ensures seated { IfOk result (λ id. IsSeated kind_of spec_of (kind_of view) spec self.old self.new id) }
+        ensures same { OnErr result (IsUnchanged self.old self.new) }
+        ensures back { IfErr result (λ e. IsDetachedFrom kind_of spec_of kept room view e.0) }
+    {
+        let id = least_empty(&self.views);
+        if let Err(error) = attach_to(&mut view, store, numbers, spec) {
+            return Err((view, error));
+        }
+        if let Err(error) = self.reserve_places(id) {
+            detach(&mut view);
+            return Err((view, error));
+        }
+        put(&mut self.views, id, view);
+        restart(&mut self.visits, id);
+        Ok(id)
+    }
+
+    /// Takes the view out of its slot, detached; `None` exactly where the slot is empty or there is none. It takes no memory.
+    /// Constant time, beside the drop of the view's answers.
+    pub fn unsubscribe(&mut self, id: usize) -> Option<Box<dyn View>>
+        ensures some { IsSome result ↔ IsSome (slice_index_or self.old.views.items id None) }
+        ensures detached { IfSome result (λ b. IsSomeAnd (slice_index_or self.old.views.items id None) (λ a. IsDetachedFrom kind_of spec_of kept room a b)) }
+        ensures empty { slice_index_or self.new.views.items id None ≡ None }
+        ensures others { OthersSame self.old.views.items self.new.views.items id }
+        ensures len { length self.new.views.items ≡ length self.old.views.items }
+        ensures visits { self.new.visits ≡ self.old.visits }
+    {
+        let mut view = self.views.get_mut(id)?.take()?;
+        detach(&mut view);
+        Some(view)
+    }
+
+    /// How often the view of a slot read the network at the last event; `None` exactly where the slot is empty or there is none.
+    /// Constant time.
+    pub fn visits_of(&self, id: usize) -> Option<u64>
+        ensures { result ≡ option_map (λ _. slice_index_or self.now.visits.items id 0) (slice_index_or self.now.views.items id None) }
+    {
+        match self.views.get(id) {
+            Some(Some(_)) => Some(self.visits.get(id).copied().unwrap_or(0)),
+            _ => None,
+        }
+    }
 }

@@ -4,7 +4,9 @@ ghost use Rattle.std.specs.Prelude.{◌≡◌, ◌≤◌, ℕ, Option, None, IfS
 ghost use Rattle.lnet_model.specs.Changes.{was, IsEvent};
 ghost use Rattle.lnet_model.specs.Dags.{IsDag, AreBelow};
 ghost use Rattle.lnet_hashed.specs.Views.{EachSlot, Fits, Kept, SlotKept, SlotsKept};
+ghost use Rattle.lnet_hashed.specs.Watches.{AreFitBy, AreToldBy};
 
+use crate::watch::Watch;
 use lnet_store::{Event, Store, View};
 use std::alloc::AllocError;
 
@@ -29,30 +31,6 @@ fn tell_slot(slot: &mut Option<Box<dyn View>>, store: &Store, event: &Event, num
     }
 }
 
-/// Tells each view of an event, and notes how often each read the network.
-pub fn tell(
-    views: &mut Vec<Option<Box<dyn View>>>,
-    visits: &mut Vec<u64>,
-    store: &Store,
-    event: &Event,
-    numbers: u32,
-)
-    requires before { IsDag (was event.now store.now.network) }
-    requires event { IsEvent event.now store.now.network }
-    requires below { AreBelow store.now.network numbers }
-    requires below_before { AreBelow (was event.now store.now.network) numbers }
-    requires fit { EachSlot (Fits spec_of kept room (was event.now store.now.network) numbers) views.old.items }
-    ensures fit { EachSlot (Fits spec_of kept room store.now.network numbers) views.new.items }
-    ensures kept { SlotsKept (Kept kind_of spec_of room) views.old.items views.new.items }
-{
-    for i in 0..views.len() {
-        let count = tell_slot(&mut views[i], store, event, numbers);
-        if let Some(place) = visits.get_mut(i) {
-            *place = count;
-        }
-    }
-}
-
 /// Gets memory for `more` numbers in the view of a slot, which has it for `numbers`.
 fn reserve_slot(
     slot: &mut Option<Box<dyn View>>,
@@ -72,21 +50,33 @@ fn reserve_slot(
     }
 }
 
-/// Gets memory for `more` numbers in each view. They have it for `numbers`, and keep that whatever the answer.
-pub fn reserve_all(
-    views: &mut Vec<Option<Box<dyn View>>>,
-    store: &Store,
-    numbers: u32,
-    more: u32,
-) -> Result<(), AllocError>
-    requires fit { EachSlot (Fits spec_of kept room store.now.network numbers) views.old.items }
-    requires more { numbers ≤ more }
-    ensures fit { EachSlot (Fits spec_of kept room store.now.network numbers) views.new.items }
-    ensures room { OnOk result (EachSlot (Fits spec_of kept room store.now.network more) views.new.items) }
-    ensures kept { SlotsKept (Kept kind_of spec_of room) views.old.items views.new.items }
-{
-    for i in 0..views.len() {
-        reserve_slot(&mut views[i], store, numbers, more)?;
+impl Watch {
+    /// Tells each view of an event, and notes how often each read the network. The views have memory for `numbers` numbers,
+    /// and those of the network are below. Each view takes its own time.
+    pub fn tell(&mut self, store: &Store, event: &Event, numbers: u32)
+        requires before { IsDag (was event.now store.now.network) }
+        requires event { IsEvent event.now store.now.network }
+        requires below { AreBelow store.now.network numbers }
+        requires below_before { AreBelow (was event.now store.now.network) numbers }
+        requires fit { AreFitBy ⟦<dyn View as View>⟧ (was event.now store.now.network) numbers self.old }
+        ensures told { AreToldBy ⟦<dyn View as View>⟧ store.now.network numbers self.old self.new }
+    {
+        for i in 0..self.views.len() {
+            self.visits[i] = tell_slot(&mut self.views[i], store, event, numbers);
+        }
     }
-    Ok(())
+
+    /// Gets memory for `more` numbers in each view. They have it for `numbers`, and keep that whatever the answer.
+    pub fn reserve(&mut self, store: &Store, numbers: u32, more: u32) -> Result<(), AllocError>
+        requires fit { AreFitBy ⟦<dyn View as View>⟧ store.now.network numbers self.old }
+        requires more { numbers ≤ more }
+        ensures told { AreToldBy ⟦<dyn View as View>⟧ store.now.network numbers self.old self.new }
+        ensures room { OnOk result (AreFitBy ⟦<dyn View as View>⟧ store.now.network more self.new) }
+        ensures visits { self.new.visits ≡ self.old.visits }
+    {
+        for i in 0..self.views.len() {
+            reserve_slot(&mut self.views[i], store, numbers, more)?;
+        }
+        Ok(())
+    }
 }

@@ -12,9 +12,9 @@ use Rattle.lnet_model.specs.Networks.{Entry, Constant, Input, IsGate, NetworkVal
 use Rattle.lnet_model.specs.Along.{In, nodes_read, fanin_nodes, IsWalk, end_of, Reaches, Acyclic, IsClosed}
 use Rattle.lnet_model.specs.Fanouts.{fan, references, IsParent}
 use Rattle.lnet_model.specs.Changes.{with_entry, without, AreLive, GateAt, IsGateAt}
-use Rattle.lnet_model.specs.Dags.{IsStored, AreBelow, NUMBERS}
+use Rattle.lnet_model.specs.Dags.{IsStored, NUMBERS}
 use Rattle.lnet_model.proofs.Map.{len_positive}
-use Rattle.lnet_model.proofs.Changes.{with_entry-here, with_entry-apart, without-here, without-apart, add-Acyclic, add-IsClosed}
+use Rattle.lnet_model.proofs.Changes.{entered-constants, with-below, with_entry-here, with_entry-apart, without-here, without-apart, add-Acyclic, add-IsClosed}
 use Rattle.lnet_model.proofs.Removals.{left-live, remove-Acyclic, remove-IsClosed}
 use Rattle.lnet_model.proofs.Fan.{parent-in-fan}
 
@@ -36,12 +36,6 @@ pub with-live : (N : NetworkValue) (k : ℕ) (e : Entry) (m : ℕ) → IsLive N 
 with-live N k e m h = elim (eqb_tells m k) as (λ _. IsLive (with_entry N k e) m) [
   | inl p ↦ subst (λ z. IsLive (with_entry N k e) z) (sym p.1) (subst IsSome (sym (with_entry-here N k e)) refl)
   | inr p ↦ subst IsSome (sym (with_entry-apart N k e m p.1)) h
-]
-
-with-below : (N : NetworkValue) (k : ℕ) (e : Entry) → k < NUMBERS → AreBelow N NUMBERS → AreBelow (with_entry N k e) NUMBERS
-with-below N k e lt below n h = elim (eqb_tells n k) as (λ _. n < NUMBERS) [
-  | inl p ↦ subst (λ z. z < NUMBERS) (sym p.1) lt
-  | inr p ↦ below n (subst IsSome (with_entry-apart N k e n p.1) h)
 ]
 
 with-arities : (N : NetworkValue) (k : ℕ) (g : GateValue) → Takes g.op (length g.fanins) → ((n : ℕ) (h : GateValue) → GateAt N n h → Takes h.op (length h.fanins)) → (n : ℕ) (h : GateValue) → GateAt (with_entry N k (IsGate g)) n h → Takes h.op (length h.fanins)
@@ -85,6 +79,7 @@ module _ (N : NetworkValue) (k : ℕ) (g : GateValue) (stored : IsStored N) (fre
           closed = closed;
           outputs_live = λ m i. with-live N k (IsGate g) m (stored.whole.outputs_live m i);
         };
+        constants = entered-constants N k (IsGate g) (λ e. (let z : IsGate g ≡ Constant = e in cc)) stored.constants;
         inputs = with-inputs N k g (λ j e. none-live N k free (subst IsSome (sym e) refl)) stored.inputs;
         below = with-below N k (IsGate g) lt stored.below;
         few_outputs = stored.few_outputs;
@@ -162,6 +157,7 @@ module _ (N : NetworkValue) (k : ℕ) (g : GateValue) (stored : IsStored N) (gat
       closed = set-IsClosed;
       outputs_live = λ m i. with-live N k (IsGate g) m (stored.whole.outputs_live m i);
     };
+    constants = entered-constants N k (IsGate g) (λ e. (let z : IsGate g ≡ Constant = e in cc)) stored.constants;
     inputs = with-inputs N k g (λ j e. let z : Some (Input j) ≡ Some (IsGate gate.0) = sym e ∙ gate.1 in cc) stored.inputs;
     below = with-below N k (IsGate g) (stored.below k (live-gate N k gate)) stored.below;
     few_outputs = stored.few_outputs;
@@ -222,6 +218,7 @@ module _ (N : NetworkValue) (k : ℕ) (stored : IsStored N) (gate : IsGateAt N k
       closed = remove-IsClosed N k stored.dag.closed (no-parent N k none);
       outputs_live = λ m i. live_now m (λ e. no-output N k none (subst (λ z. In z (nodes_read N.outputs)) e i)) (stored.whole.outputs_live m i);
     };
+    constants = λ q at. stored.constants q (gate_then q Constant at);
     inputs = λ q j. (
       λ e. (stored.inputs q j).0 (gate_then q (Input j) e),
       λ e. (let at = (stored.inputs q j).1 e in without-apart N k q (λ is. let z : Some (Input j) ≡ Some (IsGate gate.0) = sym at ∙ ap (entry_at N) is ∙ gate.1 in cc) ∙ at),

@@ -1,16 +1,17 @@
 -- The definitions at the worked network.
-use Rattle.std.proofs.Common.{◌≡◌, ℕ, List, [], ◌∷◌, map, length, ap, ◌∙◌}
+use Rattle.std.proofs.Common.{◌≡◌, ℕ, ◌+◌, true, false, not, eqb, List, [], ◌∷◌, map, length, ap, ◌∙◌}
 use Rattle.std.specs.Ordering.{nat_cmp}
-use Rattle.std.specs.List.{flat_map}
+use Rattle.std.specs.List.{flat_map, count_by}
 use Rattle.std.specs.FinMap.{from_sorted, find, get-from_sorted, entries-from_sorted, len-entries}
 use Rattle.lnet_gates.specs.declared.signal.Signal.{Signal}
 use Rattle.lnet_tables.specs.Bits.{tabulate, is_set, number_by}
 use Rattle.lnet_model.specs.Networks.{Entry, entry_at, live_count, fanins_of}
 use Rattle.lnet_model.specs.Along.{along, over}
-use Rattle.lnet_model.specs.Levels.{level_step, level}
-use Rattle.lnet_model.specs.Fanouts.{fan, slots_naming}
+use Rattle.lnet_model.specs.Levels.{greatest, level_step, level, depth}
+use Rattle.lnet_model.specs.Values.{value_step, network_outputs}
+use Rattle.lnet_model.specs.Fanouts.{fan, references, slots_naming}
 use Rattle.lnet_model.specs.Cuts.{cuts}
-use Rattle.lnet_model.specs.Worked.{worked_entries, worked_network, cut}
+use Rattle.lnet_model.specs.Worked.{signal, worked_entries, worked_network, cut}
 
 worked-at : entry_at worked_network ≡ (λ n. find nat_cmp n worked_entries)
 unfolding worked_network entry_at
@@ -31,6 +32,26 @@ levels-worked i = map (λ n. over-worked level_step 0 n i) (0 ∷ 4 ∷ 5 ∷ 6 
 pub fan-worked : fan worked_network 5 ≡ (6, 1) ∷ (9, 1) ∷ []
 unfolding fan worked_network
 fan-worked = ap (λ es. flat_map (λ (e : ℕ × Entry). slots_naming 5 e.0 0 (fanins_of e.1)) es) (entries-from_sorted nat_cmp worked_entries tt)
+
+pub depth-worked : depth worked_network ≡ 4
+unfolding depth along worked_network
+depth-worked i = greatest (map (λ n. over-worked level_step 0 n i) (8 ∷ 10 ∷ []))
+
+pub outputs-worked : network_outputs worked_network (λ k. true) ≡ true ∷ false ∷ []
+unfolding network_outputs along worked_network
+outputs-worked i = over-worked (value_step (λ k. true)) false 8 i ∷ not (over-worked (value_step (λ k. true)) false 10 i) ∷ []
+
+reads-worked :
+    (n : ℕ) →
+    references worked_network n ≡ length (flat_map (λ (e : ℕ × Entry). slots_naming n e.0 0 (fanins_of e.1)) worked_entries) + count_by (λ (s : Signal). eqb s.node.0 n)
+    (signal 8 false ∷ signal 10 true ∷ [])
+unfolding references fan worked_network
+reads-worked n =
+    ap (λ es. length (flat_map (λ (e : ℕ × Entry). slots_naming n e.0 0 (fanins_of e.1)) es) + count_by (λ (s : Signal). eqb s.node.0 n) (signal 8 false ∷ signal 10 true ∷ []))
+    (entries-from_sorted nat_cmp worked_entries tt)
+
+pub references-worked : map (references worked_network) (5 ∷ 8 ∷ 9 ∷ []) ≡ 2 ∷ 1 ∷ 1 ∷ []
+references-worked i = reads-worked 5 i ∷ reads-worked 8 i ∷ reads-worked 9 i ∷ []
 
 pub narrow-worked : cuts worked_network 3 4 10 ≡ cut (4 ∷ 9 ∷ []) 8 ∷ cut (3 ∷ 4 ∷ 5 ∷ []) 128 ∷ cut (10 ∷ []) 2 ∷ []
 unfolding along tabulate is_set number_by

@@ -1,5 +1,6 @@
 -- What a view keeps for each live node, and when it is in step with a network.
-use Rattle.std.specs.Prelude.{◌≡◌, ℕ, ◌≤◌, List, option_map, slice_get, Option, None, Some}
+use Rattle.std.specs.Prelude.{◌≡◌, ℕ, ◌≤◌, Bool, true, cond, ◌&&◌, List, [], ◌∷◌, eqb, option_map, slice_get, Option, None, Some}
+use Rattle.std.specs.List.{list_any}
 use Rattle.lnet_model.specs.Networks.{NetworkValue, entry_at}
 use Rattle.lnet_model.specs.Levels.{level}
 use Rattle.lnet_model.specs.Fanouts.{fan}
@@ -22,12 +23,12 @@ kind_for Depth = kinds.Depth
 kind_for Fanout = kinds.Fanout
 kind_for (Cuts rule) = kinds.Cuts
 
--- cuts of 3 to 6 leaves, and lists of 1 to 8 cuts beside the trivial one
+-- cuts of 3 to 8 leaves, and lists of 1 to 16 cuts beside the trivial one
 pub record IsCutRule (rule : CutRule) : Type 0 where
   pub least_size : 3 ≤ rule.size
-  pub greatest_size : rule.size ≤ 6
+  pub greatest_size : rule.size ≤ 8
   pub least_limit : 1 ≤ rule.limit
-  pub greatest_limit : rule.limit ≤ 8
+  pub greatest_limit : rule.limit ≤ 16
 
 -- a spec within the limits
 abbrev pub IsSpec : ViewSpec → Type 0
@@ -65,3 +66,25 @@ cuts_in _ = None
 abbrev pub item_in : {A : Type 0} → Option (List A) → ℕ → Option A
 item_in None i = None
 item_in (Some xs) i = slice_get xs i
+
+-- ---- pairs one after another
+
+-- whether two pairs are one
+abbrev pub same_pair : ℕ × ℕ → ℕ × ℕ → Bool
+same_pair p q = eqb p.0 q.0 && eqb p.1 q.1
+
+-- what stands after the first p of a list
+abbrev pub follower : ℕ × ℕ → List (ℕ × ℕ) → Option (ℕ × ℕ)
+follower p [] = None
+follower p (q ∷ qs) = cond (same_pair q p) (slice_get qs 0) (follower p qs)
+
+-- the pair after the last one, and the first pair where there is no last one
+abbrev pub next_in : Option (List (ℕ × ℕ)) → Option (ℕ × ℕ) → Option (ℕ × ℕ)
+next_in None last = None
+next_in (Some ps) None = slice_get ps 0
+next_in (Some ps) (Some p) = follower p ps
+
+-- the pair is one of the list
+abbrev pub IsListed : Option (List (ℕ × ℕ)) → ℕ × ℕ → Type 0
+IsListed None p = ⊥
+IsListed (Some ps) p = list_any (same_pair p) ps ≡ true

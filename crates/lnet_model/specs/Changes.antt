@@ -40,8 +40,8 @@ was (Added n) N = without N n.0
 was (Modified n g) N = with_entry N n.0 (IsGate g)
 was (Deleted n g) N = with_entry N n.0 (IsGate g)
 
--- what an event says of its node, after it
+-- what an event says of its node, after it: a modified gate differs from what it was
 abbrev pub IsEvent : Event → NetworkValue → Type 0
 IsEvent (Added n) N = IsLive N n.0
-IsEvent (Modified n g) N = IsGateAt N n.0
+IsEvent (Modified n g) N = IsGateAt N n.0 × (GateAt N n.0 g → ⊥)
 IsEvent (Deleted n g) N = entry_at N n.0 ≡ None

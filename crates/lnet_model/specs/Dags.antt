@@ -3,7 +3,7 @@ use Rattle.std.specs.Prelude.{◌≡◌, ℕ, suc, ◌≤◌, ◌<◌, ◌↔◌
 use Rattle.std.specs.FinMap.{keys}
 use Rattle.lnet_gates.specs.Gates.{GateValue}
 use Rattle.lnet_gates.specs.Plans.{Takes}
-use Rattle.lnet_model.specs.Networks.{NetworkValue, Input, IsLive, entry_at}
+use Rattle.lnet_model.specs.Networks.{NetworkValue, Constant, Input, IsLive, entry_at}
 use Rattle.lnet_model.specs.Along.{Acyclic, IsClosed, IsWhole}
 use Rattle.lnet_model.specs.Changes.{GateAt}
 use Rattle.lnet_model.specs.Levels.{greatest}
@@ -34,6 +34,8 @@ numbers_of N = greatest (map suc (keys N.nodes))
 pub record IsStored (N : NetworkValue) : Type 0 where
   pub dag : IsDag N
   pub whole : IsWhole N
+  -- the constant stands at 0 alone
+  pub constants : (n : ℕ) → entry_at N n ≡ Some Constant → n ≡ 0
   -- input k stands at the number that the list of inputs has at place k
   pub inputs : (n k : ℕ) → (entry_at N n ≡ Some (Input k)) ↔ (slice_get N.inputs k ≡ Some n)
   pub below : AreBelow N NUMBERS

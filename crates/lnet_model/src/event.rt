@@ -7,7 +7,7 @@ use lnet_gates::{Gate, Node};
 pub enum Event {
     /// An input or a gate was added at the node.
     Added(Node),
-    /// The gate at the node was set to another; the old gate stands beside it.
+    /// The gate at the node was set to another one; the old gate stands beside it.
     Modified(Node, Gate),
     /// The gate at the node was removed; it stands beside it.
     Deleted(Node, Gate),

@@ -1,13 +1,13 @@
 //! Networks as values, and the laws of their definitions.
 #![tactic(auto)]
 
-ghost use Rattle.std.specs.Prelude.{◌≡◌, ◌≢◌, ◌≤◌, ◌<◌, ◌+◌, ℕ, Bool, List, [], ◌∷◌, map, None, Some};
+ghost use Rattle.std.specs.Prelude.{◌≡◌, ◌≢◌, ◌≤◌, ◌<◌, ◌+◌, ℕ, Bool, true, false, List, [], ◌∷◌, map, None, Some};
 ghost use Rattle.lnet_gates.specs.Gates.{GateValue, apply};
 ghost use Rattle.lnet_model.specs.Networks.{NetworkValue, Entry, IsGate, entry_at, live_count, fanins_of};
 ghost use Rattle.lnet_model.specs.Along.{Acyclic, IsClosed, In, fanin_nodes, nodes_read, once, along};
 ghost use Rattle.lnet_model.specs.Values.{value_step, node_value, signal_value, network_outputs};
-ghost use Rattle.lnet_model.specs.Levels.{greatest, level_step, level};
-ghost use Rattle.lnet_model.specs.Fanouts.{fan, IsParent};
+ghost use Rattle.lnet_model.specs.Levels.{greatest, level_step, level, depth};
+ghost use Rattle.lnet_model.specs.Fanouts.{fan, references, IsParent};
 ghost use Rattle.lnet_model.specs.Cuts.{cuts};
 ghost use Rattle.lnet_model.specs.Changes.{with_entry, without, AreLive};
 ghost use Rattle.lnet_model.specs.Worked.{worked_network, cut};
@@ -60,11 +60,14 @@ pub fn levels_by_their_equation()
     ensures small { (N : NetworkValue) (n : ℕ) → level N n ≤ live_count N }
 {}
 
-/// The definitions at the worked network: levels, a fanout, and the cuts of node 10 with up to 3 leaves and 4 cuts, and with
+/// The definitions at the worked network: levels and the depth, the outputs where each input is true, a fanout and references, and the cuts of node 10 with up to 3 leaves and 4 cuts, and with
 /// up to 4 leaves and 8 cuts.
 pub fn worked_rows()
     ensures levels { map (level worked_network) (0 ∷ 4 ∷ 5 ∷ 6 ∷ 7 ∷ 8 ∷ 9 ∷ 10 ∷ []) ≡ 0 ∷ 0 ∷ 1 ∷ 2 ∷ 3 ∷ 4 ∷ 2 ∷ 3 ∷ [] }
+    ensures depth { depth worked_network ≡ 4 }
+    ensures outputs { network_outputs worked_network (λ k. true) ≡ true ∷ false ∷ [] }
     ensures fanout { fan worked_network 5 ≡ (6, 1) ∷ (9, 1) ∷ [] }
+    ensures references { map (references worked_network) (5 ∷ 8 ∷ 9 ∷ []) ≡ 2 ∷ 1 ∷ 1 ∷ [] }
     ensures narrow { cuts worked_network 3 4 10 ≡ cut (4 ∷ 9 ∷ []) 8 ∷ cut (3 ∷ 4 ∷ 5 ∷ []) 128 ∷ cut (10 ∷ []) 2 ∷ [] }
     ensures wide { cuts worked_network 4 8 10 ≡ cut (4 ∷ 9 ∷ []) 8 ∷ cut (3 ∷ 4 ∷ 5 ∷ []) 128 ∷ cut (1 ∷ 2 ∷ 3 ∷ 4 ∷ []) 32768 ∷ cut (10 ∷ []) 2 ∷ [] }
 {}

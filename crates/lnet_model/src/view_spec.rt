@@ -3,9 +3,9 @@
 /// Which cuts a cut view keeps.
 #[derive(Clone, Copy, Debug, PartialEq, Eq)]
 pub struct CutRule {
-    /// How many leaves a cut has at most: 3 to 6.
+    /// How many leaves a cut has at most: 3 to 8.
     pub size: u8,
-    /// How many cuts a node has at most, beside the trivial one: 1 to 8.
+    /// How many cuts a node has at most, beside the trivial one: 1 to 16.
     pub limit: u8,
 }
 

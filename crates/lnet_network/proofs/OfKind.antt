@@ -1,5 +1,6 @@
 -- A network seen as one of a kind: what is placed, laid and made, and what views keep, is the same.
-use Rattle.std.proofs.Common.{◌≡◌, ℕ, Bool, List, [], ◌∷◌, ◌++◌, length, IsSome, Option, None, Some, IfSome, Result, Ok, Err, IfOk, OnErr, option_map, slice_index_or, refl, sym, ap, subst, ◌∙◌}
+use Rattle.std.proofs.Common.{◌≡◌, ℕ, Bool, List, [], ◌∷◌, ◌++◌, length, IsSome, Option, None, Some, IfSome}
+use Rattle.std.proofs.Common.{Result, Ok, Err, IfOk, OnErr, option_map, slice_index_or, refl, sym, ap, subst, ◌∙◌, Global}
 use Rattle.lnet_tables.specs.declared.step.Step.{Step}
 use Rattle.lnet_tables.specs.Recipes.{RecipeValue}
 use Rattle.lnet_gates.specs.declared.gate.Kind.{Kind}
@@ -24,7 +25,11 @@ use Rattle.lnet_model.specs.declared.view_spec.ViewSpec.{ViewSpec}
 use Rattle.lnet_model.specs.declared.view_spec.ViewSpec.TheVariants.{Depth, Fanout, Cuts}
 use Rattle.lnet_hashed.specs.Strashed.{IsStrashed, of_kind, found, least_free, Placed, newly_placed, placed, placed_key, placed_form}
 use Rattle.lnet_hashed.specs.Laid.{Laid, laid_steps, laid, by_plan, made, step_gate, signal_at}
+use Rattle.std.specs.declared.dyn_box.DynBox.{DynBox}
+use Rattle.lnet_model.specs.declared.view_spec.ViewKind.{ViewKind}
+use Rattle.lnet_hashed.specs.declared.watch.Watch.{Watch}
 use Rattle.lnet_hashed.specs.Views.{EachSlot, Fits}
+use Rattle.lnet_hashed.specs.Watches.{AreFit, AreTold}
 use Rattle.lnet_store.specs.StoreValues.{with_input}
 use Rattle.lnet_hashed.specs.Swept.{IsSwept}
 use Rattle.lnet_hashed.proofs.LaidValues.{strashed-made}
@@ -65,7 +70,8 @@ placed-kind kind form N g = form-kind kind N (form g)
 abbrev laid-in : Kind → Laid → Laid
 laid-in kind l = record { network = of_kind kind l.network; places = l.places }
 
-steps-kind : (kind : Kind) (form : GateValue → Normal) (ss : List Step) (N : NetworkValue) (places : List Signal) → laid_steps form ss (of_kind kind N) places ≡ laid-in kind (laid_steps form ss N places)
+steps-kind :
+    (kind : Kind) (form : GateValue → Normal) (ss : List Step) (N : NetworkValue) (places : List Signal) → laid_steps form ss (of_kind kind N) places ≡ laid-in kind (laid_steps form ss N places)
 unfolding laid_steps
 steps-kind kind form [] N places = refl
 steps-kind kind form (s ∷ ss) N places =
@@ -76,11 +82,14 @@ steps-kind kind form (s ∷ ss) N places =
 laid-kind : (kind : Kind) (form : GateValue → Normal) (N : NetworkValue) (r : RecipeValue) (leaves : List Signal) → laid form (of_kind kind N) r leaves ≡ kinded kind (laid form N r leaves)
 laid-kind kind form N r leaves = ap (λ (l : Laid). record { network = l.network; signal = signal_at l.places r.root }) (steps-kind kind form r.steps N (constant Bool.false ∷ leaves))
 
-plan-kind : (kind : Kind) (form : GateValue → Normal) (N : NetworkValue) (op : Op) (operands : List Signal) (p : Plan) → by_plan form (of_kind kind N) op operands p ≡ kinded kind (by_plan form N op operands p)
+plan-kind :
+    (kind : Kind) (form : GateValue → Normal) (N : NetworkValue) (op : Op) (operands : List Signal) (p : Plan) →
+    by_plan form (of_kind kind N) op operands p ≡ kinded kind (by_plan form N op operands p)
 plan-kind kind form N op operands Native = placed-kind kind form N (record { op = op; phase = Bool.false; fanins = operands })
 plan-kind kind form N op operands (Steps r) = laid-kind kind form N r operands
 
-pub made-kind : (kind : Kind) (form : GateValue → Normal) (N : NetworkValue) (op : Op) (operands : List Signal) → made kind form (of_kind kind N) op operands ≡ kinded kind (made kind form N op operands)
+pub made-kind :
+    (kind : Kind) (form : GateValue → Normal) (N : NetworkValue) (op : Op) (operands : List Signal) → made kind form (of_kind kind N) op operands ≡ kinded kind (made kind form N op operands)
 unfolding made
 made-kind kind form N op operands = plan-kind kind form N op operands (plan_of kind op (length operands))
 
@@ -96,7 +105,7 @@ scratch-kind Fanout kind N n = refl
 scratch-kind (Cuts rule) kind N n = refl
 
 module _ {B : Type 0} (spec_of : B → Option ViewSpec) (kept : B → ℕ → Option Answer) (room : B → ℕ) (kind : Kind) (N : NetworkValue) (numbers : ℕ) (slots : List (Option B)) where
-  pub fits-kind : EachSlot (Fits spec_of kept room N numbers) slots → EachSlot (Fits spec_of kept room (of_kind kind N) numbers) slots
+  fits-kind : EachSlot (Fits spec_of kept room N numbers) slots → EachSlot (Fits spec_of kept room (of_kind kind N) numbers) slots
   fits-kind h k = go (slice_index_or slots k None) (h k)
     where
       go : (slot : Option B) → IfSome slot (Fits spec_of kept room N numbers) → IfSome slot (Fits spec_of kept room (of_kind kind N) numbers)
@@ -105,12 +114,14 @@ module _ {B : Type 0} (spec_of : B → Option ViewSpec) (kept : B → ℕ → Op
         in_step = record {
           asked = f.in_step.asked;
           attached = f.in_step.attached;
-          answers = λ n. f.in_step.answers n ∙ ap (λ x. option_map (λ _. x) (entry_at N n)) (sym (scratch-kind f.in_step.asked kind N n)) ∙ ap (option_map (λ _. from_scratch f.in_step.asked (of_kind kind N) n)) (sym (entry-kind kind N n));
+          answers =
+              λ n. f.in_step.answers n ∙ ap (λ x. option_map (λ _. x) (entry_at N n)) (sym (scratch-kind f.in_step.asked kind N n))
+              ∙ ap (option_map (λ _. from_scratch f.in_step.asked (of_kind kind N) n)) (sym (entry-kind kind N n));
         };
         room_enough = f.room_enough;
       }
 
-  pub kind-fits : EachSlot (Fits spec_of kept room (of_kind kind N) numbers) slots → EachSlot (Fits spec_of kept room N numbers) slots
+  kind-fits : EachSlot (Fits spec_of kept room (of_kind kind N) numbers) slots → EachSlot (Fits spec_of kept room N numbers) slots
   kind-fits h k = go (slice_index_or slots k None) (h k)
     where
       go : (slot : Option B) → IfSome slot (Fits spec_of kept room (of_kind kind N) numbers) → IfSome slot (Fits spec_of kept room N numbers)
@@ -119,14 +130,28 @@ module _ {B : Type 0} (spec_of : B → Option ViewSpec) (kept : B → ℕ → Op
         in_step = record {
           asked = f.in_step.asked;
           attached = f.in_step.attached;
-          answers = λ n. f.in_step.answers n ∙ ap (λ x. option_map (λ _. x) (entry_at (of_kind kind N) n)) (scratch-kind f.in_step.asked kind N n) ∙ ap (option_map (λ _. from_scratch f.in_step.asked N n)) (entry-kind kind N n);
+          answers =
+              λ n. f.in_step.answers n ∙ ap (λ x. option_map (λ _. x) (entry_at (of_kind kind N) n)) (scratch-kind f.in_step.asked kind N n)
+              ∙ ap (option_map (λ _. from_scratch f.in_step.asked N n)) (entry-kind kind N n);
         };
         room_enough = f.room_enough;
       }
 
+module _ {X : Type 0} {F : X → Type 0} {spec_of : DynBox X Global F → Option ViewSpec} {kept : DynBox X Global F → ℕ → Option Answer} {room : DynBox X Global F → ℕ} (kind : Kind) (N : NetworkValue) (numbers : ℕ) where
+  pub fit-kind : {w : Watch X F} → AreFit spec_of kept room N numbers w → AreFit spec_of kept room (of_kind kind N) numbers w
+  fit-kind {w} h = record { each = fits-kind spec_of kept room kind N numbers w.views.items h.each; counted = h.counted }
+
+  pub kind-fit : {w : Watch X F} → AreFit spec_of kept room (of_kind kind N) numbers w → AreFit spec_of kept room N numbers w
+  kind-fit {w} h = record { each = kind-fits spec_of kept room kind N numbers w.views.items h.each; counted = h.counted }
+
+  pub told-kind : {kind_of : DynBox X Global F → ViewKind} {v w : Watch X F} → AreTold kind_of spec_of kept room N numbers v w → AreTold kind_of spec_of kept room (of_kind kind N) numbers v w
+  told-kind h = record { fit = fit-kind h.fit; same = h.same }
+
 -- ---- after an operation
 
-pub strashed-after : (kind : Kind) (form : GateValue → Normal) (laws : NormalLaws (IsNativeGate kind) form) (N M : NetworkValue) (op : Op) (operands : List Signal) → Takes op (length operands) → FitsWord op → {E : Type 0} (r : Result Signal E) → IfOk r (λ s. made kind form N op operands ≡ record { network = M; signal = s }) → OnErr r (M ≡ N) → IsStrashed kind form N → IsStrashed kind form M
+pub strashed-after :
+    (kind : Kind) (form : GateValue → Normal) (laws : NormalLaws (IsNativeGate kind) form) (N M : NetworkValue) (op : Op) (operands : List Signal) → Takes op (length operands) → FitsWord op →
+    {E : Type 0} (r : Result Signal E) → IfOk r (λ s. made kind form N op operands ≡ record { network = M; signal = s }) → OnErr r (M ≡ N) → IsStrashed kind form N → IsStrashed kind form M
 strashed-after kind form laws N M op operands takes fits (Ok s) is same h = subst (λ (p : Placed). IsStrashed kind form p.network) is (strashed-made kind form laws N op operands takes fits h)
 strashed-after kind form laws N M op operands takes fits (Err e) is same h = subst (IsStrashed kind form) (sym same) h
 
@@ -152,6 +177,8 @@ pub free-kind : (kind : Kind) (N : NetworkValue) → least_free (of_kind kind N)
 unfolding least_free
 free-kind kind N = refl
 
-pub strashed-entered : (kind : Kind) (form : GateValue → Normal) (N M : NetworkValue) (S : Type 0) {E : Type 0} (r : Result Node E) → IfOk r (λ n. M ≡ with_input N n.0) → OnErr r ((M ≡ N) × S) → IsStrashed kind form N → IsStrashed kind form M
+pub strashed-entered :
+    (kind : Kind) (form : GateValue → Normal) (N M : NetworkValue) (S : Type 0) {E : Type 0} (r : Result Node E) → IfOk r (λ n. M ≡ with_input N n.0) → OnErr r ((M ≡ N) × S) →
+    IsStrashed kind form N → IsStrashed kind form M
 strashed-entered kind form N M S (Ok n) is same h = subst (IsStrashed kind form) (sym is) (strashed-with_input kind form N n.0 h)
 strashed-entered kind form N M S (Err e) is same h = subst (IsStrashed kind form) (sym same.0) h

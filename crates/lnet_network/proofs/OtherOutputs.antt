@@ -1,5 +1,5 @@
 -- A change of outputs leaves what stands where, and so what views keep and what room there is.
-use Rattle.std.proofs.Common.{arith, ◌≡◌, ◌≤◌, ℕ, List, IsSome, Option, None, Some, IfSome, Result, Ok, Err, OnOk, OnErr, option_map, slice_index_or, refl, sym, ap, subst, ◌∙◌}
+use Rattle.std.proofs.Common.{arith, ◌≡◌, ◌≤◌, ℕ, List, IsSome, Option, None, Some, IfSome, Result, Ok, Err, OnOk, OnErr, option_map, slice_index_or, refl, sym, ap, subst, ◌∙◌, Global}
 use Rattle.lnet_gates.specs.declared.gate.Kind.{Kind}
 use Rattle.lnet_gates.specs.declared.signal.Signal.{Signal}
 use Rattle.lnet_gates.specs.declared.normal.Normal.{Normal}
@@ -14,7 +14,10 @@ use Rattle.lnet_store.specs.StoreValues.{StoreValue, with_new_output, with_outpu
 use Rattle.lnet_hashed.specs.declared.hashed.Hashed.{Hashed}
 use Rattle.lnet_hashed.specs.Strashed.{IsStrashed, of_kind}
 use Rattle.lnet_hashed.specs.Rooms.{HasRoom}
+use Rattle.std.specs.declared.dyn_box.DynBox.{DynBox}
+use Rattle.lnet_hashed.specs.declared.watch.Watch.{Watch}
 use Rattle.lnet_hashed.specs.Views.{EachSlot, Fits}
+use Rattle.lnet_hashed.specs.Watches.{AreFit}
 use Rattle.lnet_hashed.proofs.Indexing.{indexed-same}
 use Rattle.lnet_hashed.proofs.Strashing.{strashed-same}
 
@@ -33,7 +36,7 @@ unfolding entry_at
 entry-outputs N outputs n = refl
 
 module _ {B : Type 0} (spec_of : B → Option ViewSpec) (kept : B → ℕ → Option Answer) (room : B → ℕ) (N : NetworkValue) (outputs : List Signal) (numbers : ℕ) (slots : List (Option B)) where
-  pub fits-outputs : EachSlot (Fits spec_of kept room N numbers) slots → EachSlot (Fits spec_of kept room (with_outputs N outputs) numbers) slots
+  fits-outputs : EachSlot (Fits spec_of kept room N numbers) slots → EachSlot (Fits spec_of kept room (with_outputs N outputs) numbers) slots
   fits-outputs h k = go (slice_index_or slots k None) (h k)
     where
       go : (slot : Option B) → IfSome slot (Fits spec_of kept room N numbers) → IfSome slot (Fits spec_of kept room (with_outputs N outputs) numbers)
@@ -42,10 +45,17 @@ module _ {B : Type 0} (spec_of : B → Option ViewSpec) (kept : B → ℕ → Op
         in_step = record {
           asked = f.in_step.asked;
           attached = f.in_step.attached;
-          answers = λ n. f.in_step.answers n ∙ ap (λ x. option_map (λ _. x) (entry_at N n)) (sym (scratch-outputs f.in_step.asked N outputs n)) ∙ ap (option_map (λ _. from_scratch f.in_step.asked (with_outputs N outputs) n)) (sym (entry-outputs N outputs n));
+          answers =
+              λ n. f.in_step.answers n ∙ ap (λ x. option_map (λ _. x) (entry_at N n)) (sym (scratch-outputs f.in_step.asked N outputs n))
+              ∙ ap (option_map (λ _. from_scratch f.in_step.asked (with_outputs N outputs) n)) (sym (entry-outputs N outputs n));
         };
         room_enough = f.room_enough;
       }
+
+pub fit-outputs :
+    {X : Type 0} {F : X → Type 0} {spec_of : DynBox X Global F → Option ViewSpec} {kept : DynBox X Global F → ℕ → Option Answer} {room : DynBox X Global F → ℕ} (N : NetworkValue)
+    (outputs : List Signal) (numbers : ℕ) {w : Watch X F} → AreFit spec_of kept room N numbers w → AreFit spec_of kept room (with_outputs N outputs) numbers w
+fit-outputs {spec_of} {kept} {room} N outputs numbers {w} h = record { each = fits-outputs spec_of kept room N outputs numbers w.views.items h.each; counted = h.counted }
 
 -- the outputs of N after an output is added, and after one is set
 pub new-output-is : (N : NetworkValue) (s : Signal) → with_new_output N s ≡ with_outputs N (with_new_output N s).outputs

@@ -44,6 +44,7 @@ unfolding entry_at
 stored-kind kind N h = record {
   dag = record { acyclic = h.dag.acyclic; closed = h.dag.closed; arities = h.dag.arities };
   whole = record { first = h.whole.first; closed = h.whole.closed; outputs_live = h.whole.outputs_live };
+  constants = h.constants;
   inputs = h.inputs;
   below = h.below;
   few_outputs = h.few_outputs;

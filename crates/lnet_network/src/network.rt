@@ -7,14 +7,14 @@ ghost use Rattle.lnet_model.specs.Along.{nodes_read};
 ghost use Rattle.lnet_model.specs.Changes.{AreLive};
 ghost use Rattle.lnet_model.specs.Dags.{NUMBERS};
 ghost use Rattle.lnet_hashed.specs.Laid.{made};
-ghost use Rattle.lnet_hashed.specs.Views.{EachSlot, Fits, Kept, SlotsKept};
+ghost use Rattle.lnet_hashed.specs.Watches.{AreFitBy, AreToldBy, IsBare};
 ghost use Rattle.lnet_model.specs.Networks.{IsLive, live_count};
 ghost use Rattle.lnet_store.specs.StoreValues.{first_network, with_input};
 ghost use Rattle.lnet_hashed.specs.Strashed.{of_kind, least_free};
 ghost use Rattle.lnet_hashed.specs.Swept.{IsSwept};
 
 use lnet_gates::{Gates, Node, Op, Signal};
-use lnet_hashed::{Hashed, add_input, make, reserve, sweep};
+use lnet_hashed::{Hashed, Watch, add_input, make, reserve, sweep};
 use lnet_store::{AddError, View};
 use std::alloc::{AllocError, Global};
 use std::marker::{Model, PhantomData};
@@ -74,22 +74,22 @@ pub struct Network<G: Gates> {
     /// The gates, the inputs and the outputs.
     pub core: Core<G>,
     /// The views, each in the slot of its id.
-    pub views: Vec<Option<Box<dyn View>>>,
-    /// How many calls each slot's view got.
-    pub visits: Vec<u64>,
+    pub watch: Watch,
 }
 
 impl<G: Gates> Network<G> {
     /// The network of node 0 alone, without views.
     pub fn new(alloc: Global) -> Result<Network<G>, AllocError>
         ensures network { IfOk result (λ n. n.core.network ≡ of_kind G.KIND first_network) }
-        ensures views { IfOk result (λ n. n.views.items ≡ []) }
+        ensures views { IfOk result (λ n. IsBare n.watch) }
     {
         let core = Core::new(alloc)?;
         Ok(Network {
             core,
-            views: Vec::new(alloc),
-            visits: Vec::new(alloc),
+            watch: Watch {
+                views: Vec::new(alloc),
+                visits: Vec::new(alloc),
+            },
         })
     }
 
@@ -103,19 +103,19 @@ impl<G: Gates> Network<G> {
     /// Gets memory for so many new nodes in the network and in each view, or for as many as there are free numbers. Refused for
     /// want of it, the network is as it was. Linear in the numbers, and constant time where there is enough.
     pub fn reserve(&mut self, numbers: u32) -> Result<(), AllocError>
-        requires in_step { EachSlot (Fits spec_of kept room self.old.core.network self.old.core.room) self.old.views.items }
+        requires in_step { AreFitBy ⟦<dyn View as View>⟧ self.old.core.network self.old.core.room self.old.watch }
         ensures network { self.new.core.network ≡ self.old.core.network }
         ensures spare { OnOk result (min numbers (NUMBERS - live_count self.old.core.network) ≤ self.new.core.room - live_count self.new.core.network) }
         ensures grows { self.old.core.room ≤ self.new.core.room }
-        ensures in_step { EachSlot (Fits spec_of kept room self.new.core.network self.new.core.room) self.new.views.items }
-        ensures kept { SlotsKept (Kept kind_of spec_of room) self.old.views.items self.new.views.items }
+        ensures visits { self.new.watch.visits.items ≡ self.old.watch.visits.items }
+        ensures in_step { AreToldBy ⟦<dyn View as View>⟧ self.new.core.network self.new.core.room self.old.watch self.new.watch }
     {
         let live = self.core.hashed.store.live_count();
         let wanted = live + numbers.min(LIMIT - live);
         if wanted <= self.core.hashed.room {
             return Ok(());
         }
-        reserve(&mut self.core.hashed, &mut self.views, wanted)
+        reserve(&mut self.core.hashed, &mut self.watch, wanted)
     }
 
     /// The signal of an operation on operands, as many as it takes: a gate that is there, or a new one, or by the plan of the
@@ -124,39 +124,31 @@ impl<G: Gates> Network<G> {
     pub fn gate(&mut self, op: Op, operands: &[Signal]) -> Result<Signal, AddError>
         requires arity { Takes op (length operands.now) }
         requires live { AreLive self.old.core.network (nodes_read operands.now) }
-        requires in_step { EachSlot (Fits spec_of kept room self.old.core.network self.old.core.room) self.old.views.items }
+        requires in_step { AreFitBy ⟦<dyn View as View>⟧ self.old.core.network self.old.core.room self.old.watch }
         ensures made { IfOk result (λ s. made G.KIND G.form self.old.core.network op operands.now ≡ record { network = self.new.core.network; signal = s }) }
         ensures refused { OnErr result (self.new.core.network ≡ self.old.core.network) }
         ensures grows { self.old.core.room ≤ self.new.core.room }
         ensures full { result ≡ Err AddError.Full → NUMBERS < live_count (made G.KIND G.form self.old.core.network op operands.now).network }
-        ensures memory { result ≡ Err AddError.NoMemory → self.old.core.room < live_count (made G.KIND G.form self.old.core.network op operands.now).network }
-        ensures in_step { EachSlot (Fits spec_of kept room self.new.core.network self.new.core.room) self.new.views.items }
-        ensures kept { SlotsKept (Kept kind_of spec_of room) self.old.views.items self.new.views.items }
+        ensures memory { result ≡ Err AddError.NoMemory → self.old.core.room < min NUMBERS (live_count (made G.KIND G.form self.old.core.network op operands.now).network) }
+        ensures in_step { AreToldBy ⟦<dyn View as View>⟧ self.new.core.network self.new.core.room self.old.watch self.new.watch }
     {
         word_fits(&op);
-        make::<G>(
-            &mut self.core.hashed,
-            &mut self.views,
-            &mut self.visits,
-            op,
-            operands,
-        )
+        make::<G>(&mut self.core.hashed, &mut self.watch, op, operands)
     }
 
     /// A new input, under the least number that isn't live. `Full` exactly where every number is live; `NoMemory` never where
     /// `spare` is above 0. Refused, the network is as it was. Constant time, amortized, while nodes are added only.
     pub fn input(&mut self) -> Result<Signal, AddError>
-        requires in_step { EachSlot (Fits spec_of kept room self.old.core.network self.old.core.room) self.old.views.items }
+        requires in_step { AreFitBy ⟦<dyn View as View>⟧ self.old.core.network self.old.core.room self.old.watch }
         ensures signal { IfOk result (λ s. s ≡ record { node = record { 0 = least_free self.old.core.network }; complement = false }) }
         ensures network { OnOk result (self.new.core.network ≡ with_input self.old.core.network (least_free self.old.core.network)) }
         ensures refused { OnErr result (self.new.core.network ≡ self.old.core.network) }
         ensures grows { self.old.core.room ≤ self.new.core.room }
         ensures full { (result ≡ Err AddError.Full) ↔ (live_count self.old.core.network ≡ NUMBERS) }
-        ensures memory { result ≡ Err AddError.NoMemory → self.old.core.room ≤ live_count self.old.core.network }
-        ensures in_step { EachSlot (Fits spec_of kept room self.new.core.network self.new.core.room) self.new.views.items }
-        ensures kept { SlotsKept (Kept kind_of spec_of room) self.old.views.items self.new.views.items }
+        ensures memory { result ≡ Err AddError.NoMemory → (self.old.core.room ≤ live_count self.old.core.network) × (live_count self.old.core.network < NUMBERS) }
+        ensures in_step { AreToldBy ⟦<dyn View as View>⟧ self.new.core.network self.new.core.room self.old.watch self.new.watch }
     {
-        match add_input(&mut self.core.hashed, &mut self.views, &mut self.visits) {
+        match add_input(&mut self.core.hashed, &mut self.watch) {
             Ok(node) => Ok(Signal {
                 node,
                 complement: false,
@@ -168,12 +160,11 @@ impl<G: Gates> Network<G> {
     /// Removes each gate that no output reaches. It takes no memory, and can't be refused. Linear in the numbers where gates
     /// stand above their fanins.
     pub fn sweep(&mut self)
-        requires in_step { EachSlot (Fits spec_of kept room self.old.core.network self.old.core.room) self.old.views.items }
+        requires in_step { AreFitBy ⟦<dyn View as View>⟧ self.old.core.network self.old.core.room self.old.watch }
         ensures network { IsSwept self.old.core.network self.new.core.network }
         ensures room { self.new.core.room ≡ self.old.core.room }
-        ensures in_step { EachSlot (Fits spec_of kept room self.new.core.network self.new.core.room) self.new.views.items }
-        ensures kept { SlotsKept (Kept kind_of spec_of room) self.old.views.items self.new.views.items }
+        ensures in_step { AreToldBy ⟦<dyn View as View>⟧ self.new.core.network self.new.core.room self.old.watch self.new.watch }
     {
-        sweep(&mut self.core.hashed, &mut self.views, &mut self.visits);
+        sweep(&mut self.core.hashed, &mut self.watch);
     }
 }

@@ -1,13 +1,13 @@
 //! Operations on signals, one call for each.
 
-ghost use Rattle.std.specs.Prelude.{◌≡◌, ◌≤◌, ◌<◌, [], ◌∷◌, IfOk, OnErr, Err, length};
+ghost use Rattle.std.specs.Prelude.{◌≡◌, ◌≤◌, ◌<◌, [], ◌∷◌, IfOk, OnErr, Err, length, min};
 ghost use Rattle.lnet_gates.specs.declared.gate.Op.TheVariants.{And, Xor, Maj, Lut};
 ghost use Rattle.lnet_model.specs.Along.{nodes_read};
 ghost use Rattle.lnet_model.specs.Changes.{AreLive};
 ghost use Rattle.lnet_model.specs.Dags.{NUMBERS};
 ghost use Rattle.lnet_model.specs.Networks.{IsLive, live_count};
 ghost use Rattle.lnet_hashed.specs.Laid.{made};
-ghost use Rattle.lnet_hashed.specs.Views.{EachSlot, Fits, Kept, SlotsKept};
+ghost use Rattle.lnet_hashed.specs.Watches.{AreFitBy, AreToldBy};
 
 use crate::network::Network;
 use lnet_gates::{Gates, Op, Signal};
@@ -18,14 +18,13 @@ impl<G: Gates> Network<G> {
     pub fn and(&mut self, a: Signal, b: Signal) -> Result<Signal, AddError>
         requires live_a { IsLive self.old.core.network a.node.0 }
         requires live_b { IsLive self.old.core.network b.node.0 }
-        requires in_step { EachSlot (Fits spec_of kept room self.old.core.network self.old.core.room) self.old.views.items }
+        requires in_step { AreFitBy ⟦<dyn View as View>⟧ self.old.core.network self.old.core.room self.old.watch }
         ensures made { IfOk result (λ x. made G.KIND G.form self.old.core.network And (a ∷ b ∷ []) ≡ record { network = self.new.core.network; signal = x }) }
         ensures refused { OnErr result (self.new.core.network ≡ self.old.core.network) }
         ensures grows { self.old.core.room ≤ self.new.core.room }
         ensures full { result ≡ Err AddError.Full → NUMBERS < live_count (made G.KIND G.form self.old.core.network And (a ∷ b ∷ [])).network }
-        ensures memory { result ≡ Err AddError.NoMemory → self.old.core.room < live_count (made G.KIND G.form self.old.core.network And (a ∷ b ∷ [])).network }
-        ensures in_step { EachSlot (Fits spec_of kept room self.new.core.network self.new.core.room) self.new.views.items }
-        ensures kept { SlotsKept (Kept kind_of spec_of room) self.old.views.items self.new.views.items }
+        ensures memory { result ≡ Err AddError.NoMemory → self.old.core.room < min NUMBERS (live_count (made G.KIND G.form self.old.core.network And (a ∷ b ∷ [])).network) }
+        ensures in_step { AreToldBy ⟦<dyn View as View>⟧ self.new.core.network self.new.core.room self.old.watch self.new.watch }
     {
         self.gate(Op::And, &[a, b])
     }
@@ -34,14 +33,13 @@ impl<G: Gates> Network<G> {
     pub fn xor(&mut self, a: Signal, b: Signal) -> Result<Signal, AddError>
         requires live_a { IsLive self.old.core.network a.node.0 }
         requires live_b { IsLive self.old.core.network b.node.0 }
-        requires in_step { EachSlot (Fits spec_of kept room self.old.core.network self.old.core.room) self.old.views.items }
+        requires in_step { AreFitBy ⟦<dyn View as View>⟧ self.old.core.network self.old.core.room self.old.watch }
         ensures made { IfOk result (λ x. made G.KIND G.form self.old.core.network Xor (a ∷ b ∷ []) ≡ record { network = self.new.core.network; signal = x }) }
         ensures refused { OnErr result (self.new.core.network ≡ self.old.core.network) }
         ensures grows { self.old.core.room ≤ self.new.core.room }
         ensures full { result ≡ Err AddError.Full → NUMBERS < live_count (made G.KIND G.form self.old.core.network Xor (a ∷ b ∷ [])).network }
-        ensures memory { result ≡ Err AddError.NoMemory → self.old.core.room < live_count (made G.KIND G.form self.old.core.network Xor (a ∷ b ∷ [])).network }
-        ensures in_step { EachSlot (Fits spec_of kept room self.new.core.network self.new.core.room) self.new.views.items }
-        ensures kept { SlotsKept (Kept kind_of spec_of room) self.old.views.items self.new.views.items }
+        ensures memory { result ≡ Err AddError.NoMemory → self.old.core.room < min NUMBERS (live_count (made G.KIND G.form self.old.core.network Xor (a ∷ b ∷ [])).network) }
+        ensures in_step { AreToldBy ⟦<dyn View as View>⟧ self.new.core.network self.new.core.room self.old.watch self.new.watch }
     {
         self.gate(Op::Xor, &[a, b])
     }
@@ -51,14 +49,13 @@ impl<G: Gates> Network<G> {
         requires live_a { IsLive self.old.core.network a.node.0 }
         requires live_b { IsLive self.old.core.network b.node.0 }
         requires live_c { IsLive self.old.core.network c.node.0 }
-        requires in_step { EachSlot (Fits spec_of kept room self.old.core.network self.old.core.room) self.old.views.items }
+        requires in_step { AreFitBy ⟦<dyn View as View>⟧ self.old.core.network self.old.core.room self.old.watch }
         ensures made { IfOk result (λ x. made G.KIND G.form self.old.core.network Maj (a ∷ b ∷ c ∷ []) ≡ record { network = self.new.core.network; signal = x }) }
         ensures refused { OnErr result (self.new.core.network ≡ self.old.core.network) }
         ensures grows { self.old.core.room ≤ self.new.core.room }
         ensures full { result ≡ Err AddError.Full → NUMBERS < live_count (made G.KIND G.form self.old.core.network Maj (a ∷ b ∷ c ∷ [])).network }
-        ensures memory { result ≡ Err AddError.NoMemory → self.old.core.room < live_count (made G.KIND G.form self.old.core.network Maj (a ∷ b ∷ c ∷ [])).network }
-        ensures in_step { EachSlot (Fits spec_of kept room self.new.core.network self.new.core.room) self.new.views.items }
-        ensures kept { SlotsKept (Kept kind_of spec_of room) self.old.views.items self.new.views.items }
+        ensures memory { result ≡ Err AddError.NoMemory → self.old.core.room < min NUMBERS (live_count (made G.KIND G.form self.old.core.network Maj (a ∷ b ∷ c ∷ [])).network) }
+        ensures in_step { AreToldBy ⟦<dyn View as View>⟧ self.new.core.network self.new.core.room self.old.watch self.new.watch }
     {
         self.gate(Op::Maj, &[a, b, c])
     }
@@ -68,14 +65,13 @@ impl<G: Gates> Network<G> {
     pub fn lut(&mut self, table: u64, operands: &[Signal]) -> Result<Signal, AddError>
         requires arity { length operands.now ≤ 6 }
         requires live { AreLive self.old.core.network (nodes_read operands.now) }
-        requires in_step { EachSlot (Fits spec_of kept room self.old.core.network self.old.core.room) self.old.views.items }
+        requires in_step { AreFitBy ⟦<dyn View as View>⟧ self.old.core.network self.old.core.room self.old.watch }
         ensures made { IfOk result (λ x. made G.KIND G.form self.old.core.network (Lut table) operands.now ≡ record { network = self.new.core.network; signal = x }) }
         ensures refused { OnErr result (self.new.core.network ≡ self.old.core.network) }
         ensures grows { self.old.core.room ≤ self.new.core.room }
         ensures full { result ≡ Err AddError.Full → NUMBERS < live_count (made G.KIND G.form self.old.core.network (Lut table) operands.now).network }
-        ensures memory { result ≡ Err AddError.NoMemory → self.old.core.room < live_count (made G.KIND G.form self.old.core.network (Lut table) operands.now).network }
-        ensures in_step { EachSlot (Fits spec_of kept room self.new.core.network self.new.core.room) self.new.views.items }
-        ensures kept { SlotsKept (Kept kind_of spec_of room) self.old.views.items self.new.views.items }
+        ensures memory { result ≡ Err AddError.NoMemory → self.old.core.room < min NUMBERS (live_count (made G.KIND G.form self.old.core.network (Lut table) operands.now).network) }
+        ensures in_step { AreToldBy ⟦<dyn View as View>⟧ self.new.core.network self.new.core.room self.old.watch self.new.watch }
     {
         self.gate(Op::Lut(table), operands)
     }

@@ -4,7 +4,7 @@ ghost use Rattle.std.specs.Prelude.{◌≡◌, ◌<◌, IfOk, OnOk, OnErr, lengt
 ghost use Rattle.lnet_model.specs.Networks.{IsLive};
 ghost use Rattle.lnet_model.specs.Dags.{OUTPUTS};
 ghost use Rattle.lnet_store.specs.StoreValues.{with_new_output, with_output};
-ghost use Rattle.lnet_hashed.specs.Views.{EachSlot, Fits, Kept, SlotsKept};
+ghost use Rattle.lnet_hashed.specs.Watches.{AreFitBy, AreToldBy};
 
 use crate::network::Network;
 use lnet_gates::{Gates, Signal};
@@ -17,13 +17,13 @@ impl<G: Gates> Network<G> {
     pub fn output(&mut self, s: Signal) -> Result<u32, AllocError>
         requires live { IsLive self.old.core.network s.node.0 }
         requires few { length self.old.core.network.outputs < OUTPUTS }
-        requires in_step { EachSlot (Fits spec_of kept room self.old.core.network self.old.core.room) self.old.views.items }
+        requires in_step { AreFitBy ⟦<dyn View as View>⟧ self.old.core.network self.old.core.room self.old.watch }
         ensures place { IfOk result (λ k. k ≡ length self.old.core.network.outputs) }
         ensures network { OnOk result (self.new.core.network ≡ with_new_output self.old.core.network s) }
         ensures refused { OnErr result (self.new.core.network ≡ self.old.core.network) }
         ensures room { self.new.core.room ≡ self.old.core.room }
-        ensures in_step { EachSlot (Fits spec_of kept room self.new.core.network self.new.core.room) self.new.views.items }
-        ensures kept { SlotsKept (Kept kind_of spec_of room) self.old.views.items self.new.views.items }
+        ensures watch { self.new.watch ≡ self.old.watch }
+        ensures in_step { AreToldBy ⟦<dyn View as View>⟧ self.new.core.network self.new.core.room self.old.watch self.new.watch }
     {
         self.core.hashed.store.add_output(s)
     }
@@ -33,11 +33,11 @@ impl<G: Gates> Network<G> {
     pub fn set_output(&mut self, k: u32, s: Signal)
         requires place { k < length self.old.core.network.outputs }
         requires live { IsLive self.old.core.network s.node.0 }
-        requires in_step { EachSlot (Fits spec_of kept room self.old.core.network self.old.core.room) self.old.views.items }
+        requires in_step { AreFitBy ⟦<dyn View as View>⟧ self.old.core.network self.old.core.room self.old.watch }
         ensures network { self.new.core.network ≡ with_output self.old.core.network k s }
         ensures room { self.new.core.room ≡ self.old.core.room }
-        ensures in_step { EachSlot (Fits spec_of kept room self.new.core.network self.new.core.room) self.new.views.items }
-        ensures kept { SlotsKept (Kept kind_of spec_of room) self.old.views.items self.new.views.items }
+        ensures watch { self.new.watch ≡ self.old.watch }
+        ensures in_step { AreToldBy ⟦<dyn View as View>⟧ self.new.core.network self.new.core.room self.old.watch self.new.watch }
     {
         self.core.hashed.store.set_output(k, s);
     }

@@ -116,6 +116,6 @@ impl<G: Gates> Network<G> {
     pub fn depth(&self) -> Result<u32, AllocError>
         ensures { IfOk result (λ d. d ≡ depth_of self.now.core.network) }
     {
-        depth(&self.core.hashed.store, *self.visits.allocator())
+        depth(&self.core.hashed.store, *self.watch.visits.allocator())
     }
 }

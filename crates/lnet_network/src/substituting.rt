@@ -4,7 +4,7 @@ ghost use Rattle.std.specs.Prelude.{◌≡◌};
 ghost use Rattle.lnet_model.specs.Along.{Depends};
 ghost use Rattle.lnet_model.specs.Changes.{IsGateAt};
 ghost use Rattle.lnet_model.specs.Networks.{IsLive};
-ghost use Rattle.lnet_hashed.specs.Views.{EachSlot, Fits, Kept, SlotsKept};
+ghost use Rattle.lnet_hashed.specs.Watches.{AreFitBy, AreToldBy};
 ghost use Rattle.lnet_substitution.specs.Substitutions.{Substitutes};
 
 use crate::network::Network;
@@ -23,18 +23,11 @@ impl<G: Gates> Network<G> {
         requires gate { IsGateAt self.old.core.network gate.0 }
         requires live { IsLive self.old.core.network signal.node.0 }
         requires free { Depends self.old.core.network signal gate.0 → ⊥ }
-        requires in_step { EachSlot (Fits spec_of kept room self.old.core.network self.old.core.room) self.old.views.items }
+        requires in_step { AreFitBy ⟦<dyn View as View>⟧ self.old.core.network self.old.core.room self.old.watch }
         ensures substitutes { Substitutes G.KIND G.form self.old.core.network gate.0 signal self.new.core.network }
         ensures room { self.new.core.room ≡ self.old.core.room }
-        ensures in_step { EachSlot (Fits spec_of kept room self.new.core.network self.new.core.room) self.new.views.items }
-        ensures kept { SlotsKept (Kept kind_of spec_of room) self.old.views.items self.new.views.items }
+        ensures in_step { AreToldBy ⟦<dyn View as View>⟧ self.new.core.network self.new.core.room self.old.watch self.new.watch }
     {
-        substitute::<G>(
-            &mut self.core.hashed,
-            &mut self.views,
-            &mut self.visits,
-            gate,
-            signal,
-        );
+        substitute::<G>(&mut self.core.hashed, &mut self.watch, gate, signal);
     }
 }

@@ -1,4 +1,3 @@
-pub mod NoViews
 pub mod JoinLemmas
 pub mod CoverLemmas
 pub mod RowLemmas

@@ -1,4 +1,5 @@
 //! And, or and xor of signals.
+#![tactic(auto, using(lnet_hashed::proofs::KeptViews::bare_fit, lnet_hashed::proofs::KeptViews::bare_told))]
 
 ghost use Rattle.std.specs.Prelude.{◌≡◌, ◌<◌, [], ◌∷◌, IfOk, OnOk, Err, length};
 ghost use Rattle.lnet_gates.specs.Natives.{FitsWord};
@@ -10,6 +11,7 @@ ghost use Rattle.lnet_model.specs.Networks.{IsLive, live_count};
 ghost use Rattle.lnet_hashed.specs.Laid.{made};
 ghost use Rattle.lnet_rules.specs.Joins.{by_join, joined_from, folded};
 ghost use Rattle.lnet_rules.specs.Live.{KeepsLive};
+ghost use Rattle.lnet_hashed.specs.Watches.{IsBare};
 
 use lnet_gates::{Gates, Op, Signal};
 use lnet_network::Network;
@@ -46,12 +48,12 @@ pub(crate) fn make<G: Gates>(
 ) -> Result<Signal, AddError>
     requires arity { Takes op (length operands.now) }
     requires live { AreLive net.old.core.network (nodes_read operands.now) }
-    requires none { net.old.views.items ≡ [] }
+    requires none { IsBare net.old.watch }
     ensures made { IfOk result (λ s. made G.KIND G.form net.old.core.network op operands.now ≡ record { network = net.new.core.network; signal = s }) }
     ensures live { IfOk result (λ s. IsLive net.new.core.network s.node.0) }
     ensures keeps { OnOk result (KeepsLive net.old.core.network net.new.core.network) }
     ensures full { result ≡ Err AddError.Full → NUMBERS < live_count (made G.KIND G.form net.old.core.network op operands.now).network }
-    ensures none { net.new.views.items ≡ [] }
+    ensures none { IsBare net.new.watch }
 {
     word_fits(&op);
     let _before = net.live_count();
@@ -69,12 +71,12 @@ pub(crate) fn join_two<G: Gates>(
 ) -> Result<Signal, AddError>
     requires live_a { IsLive net.old.core.network a.node.0 }
     requires live_b { IsLive net.old.core.network b.node.0 }
-    requires none { net.old.views.items ≡ [] }
+    requires none { IsBare net.old.watch }
     ensures built { IfOk result (λ s. by_join G.KIND G.form how net.old.core.network a b ≡ record { network = net.new.core.network; signal = s }) }
     ensures live { IfOk result (λ s. IsLive net.new.core.network s.node.0) }
     ensures keeps { OnOk result (KeepsLive net.old.core.network net.new.core.network) }
     ensures full { result ≡ Err AddError.Full → NUMBERS < live_count (by_join G.KIND G.form how net.old.core.network a b).network }
-    ensures none { net.new.views.items ≡ [] }
+    ensures none { IsBare net.new.watch }
 {
     match how {
         Join::And => make(net, Op::And, &[a, b]),
@@ -94,12 +96,12 @@ pub fn fold<G: Gates>(
     signals: &[Signal],
 ) -> Result<Signal, AddError>
     requires live { AreLive net.old.core.network (nodes_read signals.now) }
-    requires none { net.old.views.items ≡ [] }
+    requires none { IsBare net.old.watch }
     ensures built { IfOk result (λ s. folded G.KIND G.form how none net.old.core.network signals.now ≡ record { network = net.new.core.network; signal = s }) }
     ensures live { IfOk result (λ s. IsLive net.new.core.network s.node.0) }
     ensures keeps { OnOk result (KeepsLive net.old.core.network net.new.core.network) }
     ensures full { result ≡ Err AddError.Full → NUMBERS < live_count (folded G.KIND G.form how none net.old.core.network signals.now).network }
-    ensures none { net.new.views.items ≡ [] }
+    ensures none { IsBare net.new.watch }
 {
     let _live = net.live_count();
     match signals {
@@ -117,12 +119,12 @@ fn join_all<G: Gates>(
 ) -> Result<Signal, AddError>
     requires first { IsLive net.old.core.network first.node.0 }
     requires live { AreLive net.old.core.network (nodes_read others.now) }
-    requires none { net.old.views.items ≡ [] }
+    requires none { IsBare net.old.watch }
     ensures built { IfOk result (λ s. joined_from G.KIND G.form how (record { network = net.old.core.network; signal = first }) others.now ≡ record { network = net.new.core.network; signal = s }) }
     ensures live { IfOk result (λ s. IsLive net.new.core.network s.node.0) }
     ensures keeps { OnOk result (KeepsLive net.old.core.network net.new.core.network) }
     ensures full { result ≡ Err AddError.Full → NUMBERS < live_count (joined_from G.KIND G.form how (record { network = net.old.core.network; signal = first }) others.now).network }
-    ensures none { net.new.views.items ≡ [] }
+    ensures none { IsBare net.new.watch }
 {
     let mut joined = first;
     for other in others {

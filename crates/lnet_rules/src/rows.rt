@@ -1,4 +1,5 @@
 //! Covers row by row.
+#![tactic(auto, using(lnet_hashed::proofs::KeptViews::bare_fit, lnet_hashed::proofs::KeptViews::bare_told))]
 
 ghost use Rattle.std.specs.Prelude.{◌≡◌, ◌<◌, ◌≤◌, [], IfOk, OnOk, Err, length, slice_get, Some};
 ghost use Rattle.lnet_model.specs.Along.{nodes_read};
@@ -9,6 +10,7 @@ ghost use Rattle.lnet_edge.specs.Wires.{HasArity};
 ghost use Rattle.lnet_edge.specs.declared.circuit.Rule.TheVariants.{Cover};
 ghost use Rattle.lnet_rules.specs.Live.{KeepsLive};
 ghost use Rattle.lnet_rules.specs.Rules.{row_built, with_row, rows_built, by_rows};
+ghost use Rattle.lnet_hashed.specs.Watches.{IsBare};
 
 use crate::covering::literals_of;
 use crate::joining::{Join, fold, join_two};
@@ -27,12 +29,12 @@ fn build_row<G: Gates>(
 ) -> Result<Signal, AddError>
     requires width { length row.now ≡ length operands.now }
     requires live { AreLive net.old.core.network (nodes_read operands.now) }
-    requires none { net.old.views.items ≡ [] }
+    requires none { IsBare net.old.watch }
     ensures built { IfOk result (λ s. row_built G.KIND G.form net.old.core.network row.now operands.now ≡ record { network = net.new.core.network; signal = s }) }
     ensures live { IfOk result (λ s. IsLive net.new.core.network s.node.0) }
     ensures keeps { OnOk result (KeepsLive net.old.core.network net.new.core.network) }
     ensures full { result ≡ Err AddError.Full → NUMBERS < live_count (row_built G.KIND G.form net.old.core.network row.now operands.now).network }
-    ensures none { net.new.views.items ≡ [] }
+    ensures none { IsBare net.new.watch }
 {
     match literals_of(alloc, row, operands) {
         Ok(literals) => fold(net, Join::And, true, &literals),
@@ -51,12 +53,12 @@ fn add_row<G: Gates>(
     requires width { length row.now ≡ length operands.now }
     requires live { AreLive net.old.core.network (nodes_read operands.now) }
     requires before { IsLive net.old.core.network before.node.0 }
-    requires none { net.old.views.items ≡ [] }
+    requires none { IsBare net.old.watch }
     ensures built { IfOk result (λ s. with_row G.KIND G.form (record { network = net.old.core.network; signal = before }) row.now operands.now ≡ record { network = net.new.core.network; signal = s }) }
     ensures live { IfOk result (λ s. IsLive net.new.core.network s.node.0) }
     ensures keeps { OnOk result (KeepsLive net.old.core.network net.new.core.network) }
     ensures full { result ≡ Err AddError.Full → NUMBERS < live_count (with_row G.KIND G.form (record { network = net.old.core.network; signal = before }) row.now operands.now).network }
-    ensures none { net.new.views.items ≡ [] }
+    ensures none { IsBare net.new.watch }
 {
     match build_row(alloc, net, row, operands) {
         Ok(holds) => join_two(net, Join::Or, before, holds),
@@ -74,12 +76,12 @@ fn add_rows<G: Gates>(
     requires some { 0 < length cover.now.rows }
     requires width { HasArity (Cover cover.now) (length operands.now) }
     requires live { AreLive net.old.core.network (nodes_read operands.now) }
-    requires none { net.old.views.items ≡ [] }
+    requires none { IsBare net.old.watch }
     ensures built { IfOk result (λ s. rows_built G.KIND G.form net.old.core.network cover.now.rows operands.now ≡ record { network = net.new.core.network; signal = s }) }
     ensures live { IfOk result (λ s. IsLive net.new.core.network s.node.0) }
     ensures keeps { OnOk result (KeepsLive net.old.core.network net.new.core.network) }
     ensures full { result ≡ Err AddError.Full → NUMBERS < live_count (rows_built G.KIND G.form net.old.core.network cover.now.rows operands.now).network }
-    ensures none { net.new.views.items ≡ [] }
+    ensures none { IsBare net.new.watch }
 {
     let mut built = build_row(alloc, net, cover.row(0), operands)?;
     for k in 1..cover.len() {
@@ -97,12 +99,12 @@ pub(crate) fn build_rows<G: Gates>(
 ) -> Result<Signal, AddError>
     requires width { HasArity (Cover cover.now) (length operands.now) }
     requires live { AreLive net.old.core.network (nodes_read operands.now) }
-    requires none { net.old.views.items ≡ [] }
+    requires none { IsBare net.old.watch }
     ensures built { IfOk result (λ s. by_rows G.KIND G.form net.old.core.network cover.now.value cover.now.rows operands.now ≡ record { network = net.new.core.network; signal = s }) }
     ensures live { IfOk result (λ s. IsLive net.new.core.network s.node.0) }
     ensures keeps { OnOk result (KeepsLive net.old.core.network net.new.core.network) }
     ensures full { result ≡ Err AddError.Full → NUMBERS < live_count (by_rows G.KIND G.form net.old.core.network cover.now.value cover.now.rows operands.now).network }
-    ensures none { net.new.views.items ≡ [] }
+    ensures none { IsBare net.new.watch }
 {
     if cover.len() == 0 {
         let _live = net.live_count();

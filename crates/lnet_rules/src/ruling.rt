@@ -1,4 +1,5 @@
 //! The rules of equations.
+#![tactic(auto, using(lnet_hashed::proofs::KeptViews::bare_fit, lnet_hashed::proofs::KeptViews::bare_told))]
 
 ghost use Rattle.std.specs.Prelude.{◌≡◌, ◌<◌, [], IfOk, OnOk, Err, length};
 ghost use Rattle.lnet_model.specs.Along.{nodes_read};
@@ -9,6 +10,7 @@ ghost use Rattle.lnet_edge.specs.Wires.{HasArity};
 ghost use Rattle.lnet_edge.specs.declared.circuit.Rule.TheVariants.{Cover};
 ghost use Rattle.lnet_rules.specs.Live.{KeepsLive};
 ghost use Rattle.lnet_rules.specs.Rules.{has_tables as kind_has_tables, turned_answer, cover_built, rule_built, FitsTable};
+ghost use Rattle.lnet_hashed.specs.Watches.{IsBare};
 
 use crate::covering::table_of;
 use crate::joining::{Join, fold, make};
@@ -37,12 +39,12 @@ pub fn build_rule<G: Gates>(
 ) -> Result<Signal, AddError>
     requires arity { HasArity rule.now (length operands.now) }
     requires live { AreLive net.old.core.network (nodes_read operands.now) }
-    requires none { net.old.views.items ≡ [] }
+    requires none { IsBare net.old.watch }
     ensures built { IfOk result (λ s. rule_built G.KIND G.form net.old.core.network rule.now operands.now ≡ record { network = net.new.core.network; signal = s }) }
     ensures live { IfOk result (λ s. IsLive net.new.core.network s.node.0) }
     ensures keeps { OnOk result (KeepsLive net.old.core.network net.new.core.network) }
     ensures full { result ≡ Err AddError.Full → NUMBERS < live_count (rule_built G.KIND G.form net.old.core.network rule.now operands.now).network }
-    ensures none { net.new.views.items ≡ [] }
+    ensures none { IsBare net.new.watch }
     // What the value of a table's bits rests on.
     ensures word { FitsTable rule.now }
 {
@@ -88,12 +90,12 @@ fn build_cover<G: Gates>(
 ) -> Result<Signal, AddError>
     requires width { HasArity (Cover cover.now) (length operands.now) }
     requires live { AreLive net.old.core.network (nodes_read operands.now) }
-    requires none { net.old.views.items ≡ [] }
+    requires none { IsBare net.old.watch }
     ensures built { IfOk result (λ s. cover_built G.KIND G.form net.old.core.network cover.now operands.now ≡ record { network = net.new.core.network; signal = s }) }
     ensures live { IfOk result (λ s. IsLive net.new.core.network s.node.0) }
     ensures keeps { OnOk result (KeepsLive net.old.core.network net.new.core.network) }
     ensures full { result ≡ Err AddError.Full → NUMBERS < live_count (cover_built G.KIND G.form net.old.core.network cover.now operands.now).network }
-    ensures none { net.new.views.items ≡ [] }
+    ensures none { IsBare net.new.watch }
 {
     if has_tables(G::KIND) && operands.len() <= 6 {
         let table = table_of(cover, operands.len());

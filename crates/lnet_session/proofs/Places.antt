@@ -9,11 +9,12 @@ use Rattle.lnet_edge.specs.Circuits.{CircuitValue, EquationValue}
 use Rattle.lnet_store.specs.declared.view.View.{Ghosts}
 use Rattle.lnet_network.specs.Cores.{CoreValue}
 use Rattle.lnet_any.specs.declared.any.AnyNet.{AnyNet}
-use Rattle.lnet_any.specs.AnyNets.{core_in, network_in, views_in}
+use Rattle.lnet_any.specs.AnyNets.{core_in, network_in, views_in, watch_in}
 use Rattle.lnet_any.specs.Forms.{form_of}
 use Rattle.lnet_names.specs.NameLists.{NamesValue}
 use Rattle.lnet_subscriptions.specs.declared.roll.Subscriptions.{Subscriptions}
-use Rattle.lnet_hashed.specs.Views.{EachSlot, Fits}
+use Rattle.lnet_hashed.specs.Watches.{IsBare}
+use Rattle.lnet_hashed.proofs.KeptViews.{bare_fit}
 use Rattle.lnet_model.specs.Answers.{kind_for}
 use Rattle.lnet_subscriptions.specs.Kept.{Follow, InStepWith, Rest, Stand, roll_of}
 use Rattle.lnet_subscriptions.specs.Rolls.{all_shelved}
@@ -73,10 +74,10 @@ module _ {X : Type 0} {F : X → Type 0} where
     }
 
     -- a network without views, and no live view
-    pub good-fresh : (views : Subscriptions X F) (n : AnyNet X F) (names : NamesValue) → views_in n ≡ [] → IsSound (form_of (network_in n).kind) (network_in n) → FitNames (network_in n) names → Rest (spec_in ghosts) views → IsGood ghosts (record { place = Some (record { network = n; names = names }); views = views })
+    pub good-fresh : (views : Subscriptions X F) (n : AnyNet X F) (names : NamesValue) → IsBare (watch_in n) → IsSound (form_of (network_in n).kind) (network_in n) → FitNames (network_in n) names → Rest (spec_in ghosts) views → IsGood ghosts (record { place = Some (record { network = n; names = names }); views = views })
     good-fresh views n names none sound fit rest = (sound, fit, in_step, follow) where
       in_step : InStepWith (spec_in ghosts) (kept_in ghosts) (room_in ghosts) n
-      in_step = subst (EachSlot (Fits (spec_in ghosts) (kept_in ghosts) (room_in ghosts) (network_in n) (core_in n).room)) (sym none) (λ k. tt)
+      in_step = bare_fit none
 
       follow : Follow (kind_in ghosts) (spec_in ghosts) n views
       follow = record {

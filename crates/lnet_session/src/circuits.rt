@@ -9,7 +9,8 @@ ghost use Rattle.lnet_edge.specs.Plain.{IsPlain};
 ghost use Rattle.lnet_edge.specs.declared.circuit.Rule.TheVariants.{And};
 ghost use Rattle.lnet_build.specs.Built.{names_of, numbers_needed};
 ghost use Rattle.lnet_export.specs.Exported.{exported};
-ghost use Rattle.lnet_any.specs.AnyNets.{network_in, views_in};
+ghost use Rattle.lnet_any.specs.AnyNets.{network_in, watch_in};
+ghost use Rattle.lnet_hashed.specs.Watches.{IsBare};
 ghost use Rattle.lnet_any.specs.Forms.{form_of};
 ghost use Rattle.lnet_session.specs.Made.{IsMadeOf};
 
@@ -18,6 +19,7 @@ use lnet_build::build as fill;
 use lnet_edge::Circuit;
 use lnet_export::export as export_one;
 use lnet_gates::{Gates, Kind};
+use lnet_hashed::Watch;
 use lnet_names::Names;
 use lnet_network::{Core, Network};
 use lnet_store::AddError;
@@ -27,7 +29,7 @@ use std::alloc::{AllocError, Global};
 fn made<G: Gates>(alloc: Global, circuit: &Circuit) -> Result<(Network<G>, Names), AddError>
     ensures made { IfOk result (λ r. IsMadeOf G.KIND G.form circuit.now r.0.core.network) }
     ensures names { IfOk result (λ r. r.1 ≡ names_of circuit.now) }
-    ensures views { IfOk result (λ r. r.0.views.items ≡ []) }
+    ensures views { IfOk result (λ r. IsBare r.0.watch) }
     ensures full { result ≡ Err AddError.Full → NUMBERS < numbers_needed G.KIND G.form circuit.now }
 {
     let core = match Core::new(alloc) {
@@ -36,8 +38,10 @@ fn made<G: Gates>(alloc: Global, circuit: &Circuit) -> Result<(Network<G>, Names
     };
     let mut net = Network {
         core,
-        views: Vec::new(alloc),
-        visits: Vec::new(alloc),
+        watch: Watch {
+            views: Vec::new(alloc),
+            visits: Vec::new(alloc),
+        },
     };
     let names = fill(alloc, &mut net, circuit)?;
     let _stored = net.live_count();
@@ -53,7 +57,7 @@ pub(crate) fn build(
 ) -> Result<(AnyNet, Names), AddError>
     ensures made { IfOk result (λ r. IsMadeOf kind (form_of kind) circuit.now (network_in r.0)) }
     ensures names { IfOk result (λ r. r.1 ≡ names_of circuit.now) }
-    ensures views { IfOk result (λ r. views_in r.0 ≡ []) }
+    ensures views { IfOk result (λ r. IsBare (watch_in r.0)) }
     ensures full { result ≡ Err AddError.Full → NUMBERS < numbers_needed kind (form_of kind) circuit.now }
 {
     match kind {

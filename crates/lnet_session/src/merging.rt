@@ -4,8 +4,8 @@ ghost use Rattle.std.specs.Prelude.{◌≡◌, ◌≤◌, ◌<◌, ℕ, List, Bo
 ghost use Rattle.lnet_model.specs.Changes.{IsGateAt};
 ghost use Rattle.lnet_model.specs.Networks.{IsLive};
 ghost use Rattle.lnet_model.specs.Values.{network_outputs};
-ghost use Rattle.lnet_hashed.specs.Views.{Kept, SlotsKept};
-ghost use Rattle.lnet_any.specs.AnyNets.{core_in, network_in, views_in};
+ghost use Rattle.lnet_hashed.specs.Watches.{AreToldBy};
+ghost use Rattle.lnet_any.specs.AnyNets.{core_in, network_in, watch_in};
 ghost use Rattle.lnet_any.specs.Forms.{form_of};
 ghost use Rattle.lnet_simulate.specs.Assignments.{AgreeUnder, DifferFirst, assignment};
 ghost use Rattle.lnet_subscriptions.specs.Kept.{InStepWith};
@@ -125,8 +125,7 @@ fn merge_in(alloc: Global, net: &mut AnyNet, n: Node, s: Signal) -> Result<Reply
     ensures sound { IsSound (form_of (network_in net.old).kind) (network_in net.old) → IsSound (form_of (network_in net.new).kind) (network_in net.new) }
     ensures inputs { length (network_in net.new).inputs ≡ length (network_in net.old).inputs }
     ensures outputs { length (network_in net.new).outputs ≡ length (network_in net.old).outputs }
-    ensures in_step { InStepWith (λ b. (⟦<dyn View as View>⟧ b.vtable).spec_of b.value) (λ b. (⟦<dyn View as View>⟧ b.vtable).kept b.value) (λ b. (⟦<dyn View as View>⟧ b.vtable).room b.value) net.new }
-    ensures kept { SlotsKept (Kept (λ b. (⟦<dyn View as View>⟧ b.vtable).kind_of b.value) (λ b. (⟦<dyn View as View>⟧ b.vtable).spec_of b.value) (λ b. (⟦<dyn View as View>⟧ b.vtable).room b.value)) (views_in net.old) (views_in net.new) }
+    ensures in_step { AreToldBy ⟦<dyn View as View>⟧ (network_in net.new) (core_in net.new).room (watch_in net.old) (watch_in net.new) }
 {
     match obstacle(alloc, net, n, s) {
         Ok(Some(cause)) => Ok(Reply::Unmet(cause)),

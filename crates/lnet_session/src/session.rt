@@ -1,7 +1,8 @@
 //! A session: the network in place, its names and its views.
 
 ghost use Rattle.std.specs.Prelude.{◌≡◌, [], option_map, Some, None, IfOk, IfErr, OnOk, OnErr};
-ghost use Rattle.lnet_any.specs.AnyNets.{network_in, views_in};
+ghost use Rattle.lnet_any.specs.AnyNets.{network_in, watch_in};
+ghost use Rattle.lnet_hashed.specs.Watches.{IsBare};
 ghost use Rattle.lnet_any.specs.Forms.{form_of};
 ghost use Rattle.std.specs.List.{count_by};
 ghost use Rattle.lnet_subscriptions.specs.Rolls.{all_shelved, same_kind};
@@ -128,7 +129,7 @@ impl Session {
     /// Puts a network without views in place, and all live views on the shelf; says its kind and counts.
     pub(crate) fn put_in_place(&mut self, network: AnyNet, names: Names) -> Result<Reply, Stop>
         requires good { IsGoodBy ⟦<dyn View as View>⟧ self.old }
-        requires none { views_in network ≡ [] }
+        requires none { IsBare (watch_in network) }
         requires sound { IsSound (form_of (network_in network).kind) (network_in network) }
         requires names { FitNames (network_in network) names }
         ensures held { OnOk result ((state_by ⟦<dyn View as View>⟧ self.new).held ≡ Some (record { network = network_in network; names = names })) }

@@ -1,5 +1,5 @@
 -- The network after each change, its references, and that what a store keeps stays.
-use Rattle.std.proofs.Common.{◌≡◌, ◌≢◌, ℕ, zero, suc, ◌+◌, ◌<◌, true, false, cond, eqb, List, [], ◌∷◌, ◌++◌, map, length, length-append, IsSome, is_some, Option, None, Some, get_or, refl, sym, ap, subst, ◌∙◌, inl, inr, arith, slice_get}
+use Rattle.std.proofs.Common.{◌≡◌, ◌≢◌, ℕ, zero, suc, ◌+◌, ◌<◌, true, false, cond, eqb, List, [], ◌∷◌, ◌++◌, map, length, length-append, IsSome, is_some, None, Some, get_or, refl, sym, ap, subst, ◌∙◌, inl, inr, arith, slice_get}
 use Rattle.std.proofs.Math.ListN.{set}
 use Rattle.std.specs.Prelude.{◌⊎◌}
 use Rattle.std.specs.Ordering.{nat_cmp}
@@ -17,8 +17,7 @@ use Rattle.lnet_model.specs.Along.{In, nodes_read, IsClosed}
 use Rattle.lnet_model.specs.Fanouts.{references}
 use Rattle.lnet_model.specs.Changes.{with_entry, without, GateAt}
 use Rattle.lnet_model.specs.Dags.{IsStored, AreBelow, NUMBERS, OUTPUTS}
-use Rattle.lnet_model.proofs.Map.{Apart, count_apart}
-use Rattle.lnet_model.proofs.Changes.{with_entry-here, with_entry-apart, without-here, without-apart, add-Acyclic, add-IsClosed}
+use Rattle.lnet_model.proofs.Changes.{entered-constants, with_entry-here, with_entry-apart, without-here, without-apart, add-Acyclic, add-IsClosed}
 use Rattle.lnet_model.proofs.Stored.{take_back}
 use Rattle.lnet_model.proofs.References.{names_in, references-changed, references-outputs}
 use Rattle.lnet_store.specs.StoreValues.{with_input, with_new_output, with_output}
@@ -188,6 +187,7 @@ module _ (N : NetworkValue) (k : ℕ) (stored : IsStored N) (free : entry_at N k
           closed = closed;
           outputs_live = λ m i. input-live m (stored.whole.outputs_live m i);
         };
+        constants = entered-constants N k (Input (length N.inputs)) (λ e. (let z : Input (length N.inputs) ≡ Constant = e in cc)) stored.constants;
         inputs = λ n j. (input-there n j, input-back n j);
         below = input-below lt;
         few_outputs = stored.few_outputs;
@@ -225,6 +225,7 @@ stored-new_output N s stored live few = record {
     closed = stored.whole.closed;
     outputs_live = λ m i. elim (in-append m N.outputs s i) as (λ _. IsLive N m) [ inl j ↦ stored.whole.outputs_live m j | inr e ↦ subst (IsLive N) (sym e) live ];
   };
+  constants = stored.constants;
   inputs = stored.inputs;
   below = stored.below;
   few_outputs = (let e = length-append N.outputs (s ∷ []) in omega arith);
@@ -239,37 +240,8 @@ stored-output N k s stored live = record {
     closed = stored.whole.closed;
     outputs_live = λ m i. elim (in-set k m s N.outputs i) as (λ _. IsLive N m) [ inl j ↦ stored.whole.outputs_live m j | inr e ↦ subst (IsLive N) (sym e) live ];
   };
+  constants = stored.constants;
   inputs = stored.inputs;
   below = stored.below;
   few_outputs = (let e = length-set N.outputs k s in let f = stored.few_outputs in omega arith);
 }
-
--- ---- the inputs are fewer than the live numbers
-
-get-In : (xs : List ℕ) (x : ℕ) → In x xs → (j : ℕ) × (slice_get xs j ≡ Some x)
-get-In [] x i = absurd i
-get-In (y ∷ ys) x (inl e) = (0, ap (λ z. Some z) (sym e))
-get-In (y ∷ ys) x (inr i) = let r = get-In ys x i in (suc r.0, r.1)
-
-input-number : (a b : ℕ) (o : Option Entry) → o ≡ Some (Input a) → o ≡ Some (Input b) → a ≡ b
-input-number a b o e f = let z : Some (Input a) ≡ Some (Input b) = sym e ∙ f in cc
-
-apart-inputs : (g : ℕ → Option Entry) (xs : List ℕ) (a : ℕ) → ((j n : ℕ) → slice_get xs j ≡ Some n → g n ≡ Some (Input (a + j))) → Apart xs
-apart-inputs g [] a at = tt
-apart-inputs g (x ∷ xs) a at = (
-  λ i. let r = get-In xs x i in let e = input-number (a + 0) (a + suc r.0) (g x) (at 0 x refl) (at (suc r.0) x r.1) in absurd (omega arith),
-  apart-inputs g xs (suc a) (λ j n e. at (suc j) n e ∙ ap (λ z. Some (Input z)) (let s : a + suc j ≡ suc a + j = omega arith in s)),
-)
-
-pub few-inputs : (N : NetworkValue) → IsStored N → length N.inputs < live_count N
-unfolding live_count entry_at
-few-inputs N stored =
-    let at : (j n : ℕ) → slice_get N.inputs j ≡ Some n → entry_at N n ≡ Some (Input j) = λ j n e. (stored.inputs n j).1 e in
-    let apart = apart-inputs (entry_at N) N.inputs 0 (λ j n e. at j n e ∙ ap (λ z. Some (Input z)) (let s : j ≡ 0 + j = omega arith in s)) in
-    let not_first : In 0 N.inputs → ⊥ = λ i. (let r = get-In N.inputs 0 i in let z : Some Constant ≡ Some (Input r.0) = sym stored.whole.first ∙ at r.0 0 r.1 in cc) in
-    let live : (x : ℕ) → In x (0 ∷ N.inputs) → IsSome (entry_at N x) = λ x i. elim i as (λ _. IsSome (entry_at N x)) [
-      | inl e ↦ subst (λ z. IsSome (entry_at N z)) (sym e) (subst IsSome (sym stored.whole.first) refl)
-      | inr j ↦ (let r = get-In N.inputs x j in subst IsSome (sym (at r.0 x r.1)) refl)
-    ] in
-    let few = count_apart (0 ∷ N.inputs) N.nodes (not_first, apart) live in
-    omega arith

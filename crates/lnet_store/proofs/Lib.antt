@@ -3,5 +3,7 @@ pub mod ParentLemmas
 pub mod StoreLemmas
 pub mod CountLemmas
 pub mod ChangeLemmas
+pub mod FewInputs
 pub mod KeptLemmas
 pub mod SearchLemmas
+pub mod NextPairs

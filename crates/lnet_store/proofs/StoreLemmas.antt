@@ -73,6 +73,12 @@ first-gate n g e = elim (eqb n 0) as (λ b. cond b (Some Constant) None ≡ Some
 first-input : (n k : ℕ) → entry_at first_network n ≡ Some (Input k) → ⊥
 first-input n k e = elim (eqb n 0) as (λ b. cond b (Some Constant) None ≡ Some (Input k) → ⊥) [ true ↦ λ h. cc | false ↦ λ h. cc ] (sym (first-entry n) ∙ e)
 
+first-constant : (n : ℕ) → entry_at first_network n ≡ Some Constant → n ≡ 0
+first-constant n e = elim (eqb_tells n 0) as (λ _. n ≡ 0) [
+  | inl p ↦ p.1
+  | inr p ↦ (let z : None ≡ Some Constant = sym (first-entry n ∙ ap (λ b. cond b (Some Constant) None) p.0) ∙ e in cc)
+]
+
 first-below : AreBelow first_network NUMBERS
 first-below n live = elim (eqb_tells n 0) as (λ _. n < NUMBERS) [
   | inl p ↦ (let e = p.1 in let z : 0 < NUMBERS = lit< tt in omega arith)
@@ -92,6 +98,7 @@ first-stored = record {
     closed = λ n m i. absurd (first-reads n m i);
     outputs_live = λ m i. absurd i;
   };
+  constants = first-constant;
   inputs = λ n k. (λ e. absurd (first-input n k e), λ e. cc);
   below = first-below;
   few_outputs = omega arith;

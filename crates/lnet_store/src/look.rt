@@ -1,7 +1,7 @@
 //! Readers of a store that count what they read.
 
-ghost use Rattle.std.specs.Prelude.{◌≡◌, ℕ, ◌≤◌, ◌<◌, ◌∷◌, [], ◌↔◌, option_map, length, slice_get, MatchOption, OnSome, IfSome, IsTrue, ◌+◌};
-ghost use Rattle.lnet_model.specs.Networks.{IsLive, entry_at, fanins_of, gate_at, live_count};
+ghost use Rattle.std.specs.Prelude.{◌≡◌, ℕ, ◌≤◌, ◌<◌, ◌∷◌, [], option_map, length, slice_get, MatchOption, OnSome, IfSome, ◌+◌};
+ghost use Rattle.lnet_model.specs.Networks.{entry_at, fanins_of, gate_at, live_count};
 ghost use Rattle.lnet_model.specs.Along.{at_entry};
 ghost use Rattle.lnet_model.specs.Fanouts.{fan};
 ghost use Rattle.lnet_model.specs.Dags.{IsStored, NUMBERS};
@@ -84,13 +84,6 @@ impl<'a> Look<'a> {
         ensures stored { IsStored self.now.network }
     {
         self.store.live_count()
-    }
-
-    /// Whether the number is live. It reads no gate, and isn't counted. Constant time.
-    pub fn is_live(&self, n: Node) -> bool
-        ensures { IsTrue result ↔ IsLive self.now.network n.0 }
-    {
-        self.store.is_live(n)
     }
 
     /// The gate at the node; `None` exactly where no gate stands there. It counts one read, for the store's stamp. Constant

@@ -1,10 +1,10 @@
 //! Views: what follows a network event by event.
 
-ghost use Rattle.std.specs.Prelude.{◌≡◌, ℕ, ◌+◌, ◌≤◌, OnOk, OnErr, Option, None, Some, option_map, length};
+ghost use Rattle.std.specs.Prelude.{◌≡◌, ℕ, ◌+◌, ◌≤◌, OnOk, OnErr, IfSome, Option, None, Some, option_map, length};
 ghost use Rattle.lnet_model.specs.Networks.{NetworkValue, live_count};
 ghost use Rattle.lnet_model.specs.Changes.{was, IsEvent};
 ghost use Rattle.lnet_model.specs.Dags.{IsDag, AreBelow, numbers_of};
-ghost use Rattle.lnet_model.specs.Answers.{Answer, InStep, IsSpec, kind_for, level_in, parents_in, cuts_in, item_in};
+ghost use Rattle.lnet_model.specs.Answers.{Answer, InStep, IsSpec, kind_for, level_in, parents_in, cuts_in, item_in, next_in, IsListed};
 ghost use Rattle.lnet_model.specs.Visits.{visit_bound};
 ghost use Rattle.lnet_model.specs.declared.view_spec.ViewKind.{ViewKind};
 ghost use Rattle.lnet_model.specs.declared.view_spec.ViewSpec.{ViewSpec};
@@ -36,12 +36,13 @@ pub trait View: Drop {
     fn kind(&self) -> ViewKind
         ensures { result ≡ kind_of self.now };
 
-    /// What it is attached for; `None` exactly while it is detached. Constant time.
+    /// What it is attached for; `None` exactly while it is detached, and then it keeps no answer. Constant time.
     fn spec(&self) -> Option<ViewSpec>
-        ensures { result ≡ spec_of self.now };
+        ensures value { result ≡ spec_of self.now }
+        ensures silent { spec_of self.now ≡ None → (n : ℕ) → kept self.now n ≡ None };
 
-    /// Attaches the detached view to the store's network, for a spec of its kind; a cut rule has 3 to 6 leaves and a limit
-    /// of 1 to 8. Refused for want of memory, it stays detached. Linear in the store's numbers and fanins for levels and
+    /// Attaches the detached view to the store's network, for a spec of its kind; a cut rule has 3 to 8 leaves and a limit
+    /// of 1 to 16. Refused for want of memory, it stays detached. Linear in the store's numbers and fanins for levels and
     /// fanouts.
     fn attach(&mut self, store: &Store, spec: ViewSpec) -> Result<(), AllocError>
         requires detached { spec_of self.old ≡ None }
@@ -50,14 +51,17 @@ pub trait View: Drop {
         ensures kind { kind_of self.new ≡ kind_of self.old }
         ensures spec { OnOk result (spec_of self.new ≡ Some spec) }
         ensures in_step { OnOk result (InStep (spec_of self.new) (kept self.new) store.now.network) }
+        ensures grows { room self.old ≤ room self.new }
         ensures room { OnOk result (numbers_of store.now.network ≤ room self.new) }
-        ensures refused { OnErr result (spec_of self.new ≡ None) };
+        ensures refused { OnErr result (spec_of self.new ≡ None) }
+        ensures empty { OnErr result ((n : ℕ) → kept self.new n ≡ None) };
 
-    /// Detaches the view, and drops its answers. It takes no memory.
+    /// Detaches the view, and drops its answers. It keeps its memory, and takes none.
     fn detach(&mut self)
         ensures kind { kind_of self.new ≡ kind_of self.old }
         ensures spec { spec_of self.new ≡ None }
-        ensures empty { (n : ℕ) → kept self.new n ≡ None };
+        ensures empty { (n : ℕ) → kept self.new n ≡ None }
+        ensures grows { room self.old ≤ room self.new };
 
     /// Gets memory for at least so many numbers. Whatever it answers, the view keeps its spec and its answers.
     fn reserve(&mut self, numbers: u32) -> Result<(), AllocError>
@@ -100,6 +104,25 @@ pub trait View: Drop {
     /// isn't below it.
     fn fanout_at(&self, n: Node, i: u32) -> Option<(Node, u8)>
         ensures { option_map (λ p. (p.0.0, p.1)) result ≡ item_in (parents_in (kept self.now n.0)) i };
+
+    /// The pair of the node's fanout after `last`, which is one of them, or the first pair where `last` is `None`; `None`
+    /// exactly where there is none. A view that keeps fanouts answers in constant time; this body, which asks `fanout_at`
+    /// for one pair after another, is linear in the fanout.
+    fn fanout_next(&self, n: Node, last: Option<(Node, u8)>) -> Option<(Node, u8)>
+        requires listed { IfSome last (λ p. IsListed (parents_in (kept self.now n.0)) (p.0.0, p.1)) }
+        ensures { option_map (λ p. (p.0.0, p.1)) result ≡ next_in (parents_in (kept self.now n.0)) (option_map (λ p. (p.0.0, p.1)) last) }
+    {
+        let len = self.fanout_len(n)?;
+        let mut is_next = last.is_none();
+        for i in 0..len {
+            let pair = self.fanout_at(n, i);
+            if is_next {
+                return pair;
+            }
+            is_next = pair == last;
+        }
+        None
+    }
 
     /// How many cuts the node has; `None` exactly where the view is detached, keeps no cuts, or the node isn't live. Constant
     /// time.

@@ -6,10 +6,11 @@ use Rattle.std.specs.declared.dyn_box.DynBox.{DynBox}
 use Rattle.lnet_model.specs.Answers.{Answer, kind_for}
 use Rattle.lnet_model.specs.declared.view_spec.ViewKind.{ViewKind}
 use Rattle.lnet_model.specs.declared.view_spec.ViewSpec.{ViewSpec}
-use Rattle.lnet_hashed.specs.Views.{StandsAs, EachSlot, Fits}
+use Rattle.lnet_hashed.specs.Views.{StandsAs}
+use Rattle.lnet_hashed.specs.Watches.{AreFit}
 use Rattle.lnet_network.specs.declared.viewing.ViewId.{ViewId}
 use Rattle.lnet_any.specs.declared.any.AnyNet.{AnyNet}
-use Rattle.lnet_any.specs.AnyNets.{core_in, network_in, views_in}
+use Rattle.lnet_any.specs.AnyNets.{core_in, network_in, views_in, watch_in}
 use Rattle.lnet_subscriptions.specs.declared.roll.Subscriptions.{Subscriptions}
 use Rattle.lnet_subscriptions.specs.Rolls.{Roll}
 
@@ -46,4 +47,4 @@ pub record Rest {X : Type 0} {F : X → Type 0} (spec_of : DynBox X Global F →
 
 -- each view of the network is in step with it, and has the memory that the network has
 abbrev pub InStepWith : {X : Type 0} {F : X → Type 0} → (DynBox X Global F → Option ViewSpec) → (DynBox X Global F → ℕ → Option Answer) → (DynBox X Global F → ℕ) → AnyNet X F → Type 0
-InStepWith spec_of kept room net = EachSlot (Fits spec_of kept room (network_in net) (core_in net).room) (views_in net)
+InStepWith spec_of kept room net = AreFit spec_of kept room (network_in net) (core_in net).room (watch_in net)

@@ -1,7 +1,7 @@
 //! A network of any kind, in which gates merge.
 
-ghost use Rattle.lnet_hashed.specs.Views.{EachSlot, Fits};
-ghost use Rattle.lnet_any.specs.AnyNets.{core_in, network_in, views_in};
+ghost use Rattle.lnet_hashed.specs.Watches.{AreFitBy};
+ghost use Rattle.lnet_any.specs.AnyNets.{core_in, network_in, watch_in};
 
 use crate::networks::{build, output};
 use crate::signals::coded;
@@ -13,7 +13,7 @@ use std::test::Fail;
 
 /// Lets a gate give way to a signal. Whether it could.
 fn gives_way(net: &mut AnyNet, gate: Node, signal: Signal) -> bool
-    requires in_step { EachSlot (Fits (λ b. (⟦<dyn View as View>⟧ b.vtable).spec_of b.value) (λ b. (⟦<dyn View as View>⟧ b.vtable).kept b.value) (λ b. (⟦<dyn View as View>⟧ b.vtable).room b.value) (network_in net.old) (core_in net.old).room) (views_in net.old) }
+    requires in_step { AreFitBy ⟦<dyn View as View>⟧ (network_in net.old) (core_in net.old).room (watch_in net.old) }
 {
     if net.depends_on(signal, gate) || !net.is_gate(gate) || !net.is_live(signal.node) {
         return false;

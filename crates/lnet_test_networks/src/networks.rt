@@ -1,7 +1,7 @@
 //! Networks without views, made by hand, and their texts. Signals are given by their codes.
 
 ghost use Rattle.std.specs.Prelude.{◌≡◌, ◌↔◌, IsTrue, []};
-ghost use Rattle.lnet_hashed.specs.Views.{EachSlot, Fits};
+ghost use Rattle.lnet_hashed.specs.Watches.{AreFitBy};
 ghost use Rattle.lnet_model.specs.Changes.{IsGateAt};
 
 use crate::signals::coded;
@@ -28,8 +28,8 @@ fn gate<G: Gates>(
     b: Signal,
     c: Signal,
 ) -> Result<Signal, Fail>
-    requires in_step { EachSlot (Fits (λ b. (⟦<dyn View as View>⟧ b.vtable).spec_of b.value) (λ b. (⟦<dyn View as View>⟧ b.vtable).kept b.value) (λ b. (⟦<dyn View as View>⟧ b.vtable).room b.value) network.old.core.network network.old.core.room) network.old.views.items }
-    ensures in_step { EachSlot (Fits (λ b. (⟦<dyn View as View>⟧ b.vtable).spec_of b.value) (λ b. (⟦<dyn View as View>⟧ b.vtable).kept b.value) (λ b. (⟦<dyn View as View>⟧ b.vtable).room b.value) network.new.core.network network.new.core.room) network.new.views.items }
+    requires in_step { AreFitBy ⟦<dyn View as View>⟧ network.old.core.network network.old.core.room network.old.watch }
+    ensures in_step { AreFitBy ⟦<dyn View as View>⟧ network.new.core.network network.new.core.room network.new.watch }
 {
     if !network.is_live(a.node) || !network.is_live(b.node) || !network.is_live(c.node) {
         return Err("no such node".into());
@@ -53,8 +53,8 @@ pub(crate) fn build<G: Gates>(
     inputs: u32,
     gates: &[(Op, [u32; 3], u64)],
 ) -> Result<(), Fail>
-    requires in_step { EachSlot (Fits (λ b. (⟦<dyn View as View>⟧ b.vtable).spec_of b.value) (λ b. (⟦<dyn View as View>⟧ b.vtable).kept b.value) (λ b. (⟦<dyn View as View>⟧ b.vtable).room b.value) network.old.core.network network.old.core.room) network.old.views.items }
-    ensures in_step { EachSlot (Fits (λ b. (⟦<dyn View as View>⟧ b.vtable).spec_of b.value) (λ b. (⟦<dyn View as View>⟧ b.vtable).kept b.value) (λ b. (⟦<dyn View as View>⟧ b.vtable).room b.value) network.new.core.network network.new.core.room) network.new.views.items }
+    requires in_step { AreFitBy ⟦<dyn View as View>⟧ network.old.core.network network.old.core.room network.old.watch }
+    ensures in_step { AreFitBy ⟦<dyn View as View>⟧ network.new.core.network network.new.core.room network.new.watch }
 {
     for _ in 0..inputs {
         if network.input().is_err() {
@@ -71,8 +71,8 @@ pub(crate) fn build<G: Gates>(
 
 /// Adds an output of an input, and makes it the signal of a code.
 pub(crate) fn output<G: Gates>(network: &mut Network<G>, code: u32) -> Result<u32, Fail>
-    requires in_step { EachSlot (Fits (λ b. (⟦<dyn View as View>⟧ b.vtable).spec_of b.value) (λ b. (⟦<dyn View as View>⟧ b.vtable).kept b.value) (λ b. (⟦<dyn View as View>⟧ b.vtable).room b.value) network.old.core.network network.old.core.room) network.old.views.items }
-    ensures in_step { EachSlot (Fits (λ b. (⟦<dyn View as View>⟧ b.vtable).spec_of b.value) (λ b. (⟦<dyn View as View>⟧ b.vtable).kept b.value) (λ b. (⟦<dyn View as View>⟧ b.vtable).room b.value) network.new.core.network network.new.core.room) network.new.views.items }
+    requires in_step { AreFitBy ⟦<dyn View as View>⟧ network.old.core.network network.old.core.room network.old.watch }
+    ensures in_step { AreFitBy ⟦<dyn View as View>⟧ network.new.core.network network.new.core.room network.new.watch }
 {
     let (from, to) = (Signal::constant(false), coded(code));
     if !network.is_live(from.node) || network.output_count() > 9 {
@@ -88,8 +88,8 @@ pub(crate) fn output<G: Gates>(network: &mut Network<G>, code: u32) -> Result<u3
 
 /// Lets a gate give way to the signal of a code.
 fn give_way<G: Gates>(network: &mut Network<G>, gate: u32, code: u32) -> Result<(), Fail>
-    requires in_step { EachSlot (Fits (λ b. (⟦<dyn View as View>⟧ b.vtable).spec_of b.value) (λ b. (⟦<dyn View as View>⟧ b.vtable).kept b.value) (λ b. (⟦<dyn View as View>⟧ b.vtable).room b.value) network.old.core.network network.old.core.room) network.old.views.items }
-    ensures in_step { EachSlot (Fits (λ b. (⟦<dyn View as View>⟧ b.vtable).spec_of b.value) (λ b. (⟦<dyn View as View>⟧ b.vtable).kept b.value) (λ b. (⟦<dyn View as View>⟧ b.vtable).room b.value) network.new.core.network network.new.core.room) network.new.views.items }
+    requires in_step { AreFitBy ⟦<dyn View as View>⟧ network.old.core.network network.old.core.room network.old.watch }
+    ensures in_step { AreFitBy ⟦<dyn View as View>⟧ network.new.core.network network.new.core.room network.new.watch }
 {
     let (gate, signal) = (Node(gate), coded(code));
     if network.depends_on(signal, gate)

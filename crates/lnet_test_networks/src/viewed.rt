@@ -1,7 +1,7 @@
 //! A network with a view, told each change.
 
 ghost use Rattle.std.specs.Prelude.{◌≡◌};
-ghost use Rattle.lnet_hashed.specs.Views.{EachSlot, Fits};
+ghost use Rattle.lnet_hashed.specs.Watches.{AreFitBy};
 
 use crate::signals::coded;
 use lnet_gates::{AigGates, Node};
@@ -12,8 +12,8 @@ use std::test::Fail;
 
 /// Subscribes a detached depth view.
 fn follow(network: &mut Network<AigGates>, view: Box<dyn View>) -> Result<ViewId, Fail>
-    requires in_step { EachSlot (Fits spec_of kept room network.old.core.network network.old.core.room) network.old.views.items }
-    ensures in_step { EachSlot (Fits spec_of kept room network.new.core.network network.new.core.room) network.new.views.items }
+    requires in_step { AreFitBy ⟦<dyn View as View>⟧ network.old.core.network network.old.core.room network.old.watch }
+    ensures in_step { AreFitBy ⟦<dyn View as View>⟧ network.new.core.network network.new.core.room network.new.watch }
 {
     if view.spec().is_some() {
         return Err("attached".into());

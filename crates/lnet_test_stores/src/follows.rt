@@ -1,11 +1,12 @@
 //! Views beside a store that changes: levels and values as worked out by hand.
 
-ghost use Rattle.std.specs.Prelude.{◌≡◌, ◌↔◌, IsTrue, IfOk, OnErr, false, refl, true};
+ghost use Rattle.std.specs.Prelude.{◌≡◌, ◌↔◌, ◌∷◌, [], IsTrue, IfOk, OnErr, false, refl, true};
+ghost use Rattle.lnet_gates.specs.Gates.{GateValue};
 ghost use Rattle.lnet_model.specs.Answers.{InStep};
-ghost use Rattle.lnet_model.specs.Changes.{IsEvent, IsGateAt, was};
+ghost use Rattle.lnet_model.specs.Changes.{GateAt, IsEvent, IsGateAt, was};
 
 use crate::stores::{added, and, read};
-use lnet_gates::{Gate, Node};
+use lnet_gates::{Gate, Node, Signal};
 use lnet_model::{Event, ViewKind, ViewSpec};
 use lnet_store::{Store, View};
 use lnet_views::{DepthView, Follow, Rule};
@@ -28,6 +29,16 @@ fn is_gate(store: &Store, n: Node) -> bool
     store.gate_of(n).is_some()
 }
 
+/// Whether a gate stands at the number whose fanins aren't the two signals.
+fn is_another(store: &Store, n: Node, a: Signal, b: Signal) -> bool
+    ensures { IsTrue result → IsGateAt store.now.network n.0 × ((g : GateValue) → GateAt store.now.network n.0 g → (g.fanins ≡ a ∷ b ∷ []) → ⊥) }
+{
+    match store.gate_of(n) {
+        Some(gate) => gate.fanins.as_slice() != [a, b].as_slice(),
+        None => false,
+    }
+}
+
 /// Makes the change, with a gate that is the And of two nodes, and tells its event.
 fn made(rt: &impl Abort, store: &mut Store, change: Change, a: u32, b: u32) -> Result<Event, Fail>
     ensures was { IfOk result (λ e. was e store.new.network ≡ store.old.network) }
@@ -47,9 +58,9 @@ fn made(rt: &impl Abort, store: &mut Store, change: Change, a: u32, b: u32) -> R
         Change::Set(n) => {
             if store.depends_on(a, Node(n))
                 || store.depends_on(b, Node(n))
-                || !is_gate(store, Node(n))
+                || !is_another(store, Node(n), a, b)
             {
-                return Err("no such gate".into());
+                return Err("no other gate there".into());
             }
             let old = store.set_gate(Node(n), and(a, b));
             assert!(rt; is_gate(store, Node(n)));

@@ -1,23 +1,16 @@
 //! The hash table of gates' keys, with keys that come and go.
 
+use crate::stores::read;
 use arrayvec::ArrayVec;
-use lnet_gates::{Key, Node, Op, Signal};
+use lnet_gates::{Key, Node, Op};
 use lnet_strash::Strash;
 use std::test::Fail;
-
-/// The signal that reads a node as it is.
-fn plain(node: u32) -> Signal {
-    Signal {
-        node: Node(node),
-        complement: false,
-    }
-}
 
 /// The key of an operation on the plain signals of nodes 1 and `second`.
 fn key(op: Op, second: u32) -> Key {
     let mut fanins = ArrayVec::new();
-    fanins.push(plain(1));
-    fanins.push(plain(second));
+    fanins.push(read(1, false));
+    fanins.push(read(second, false));
     Key { op, fanins }
 }
 

@@ -43,6 +43,11 @@ pub record IsMarking (N : NetworkValue) (n : ℕ) (before waits : List (Option �
 abbrev pub IsTied : List (Option ℕ) → List (Option ℕ) → Type 0
 IsTied levels waits = (m l : ℕ) → slice_index_or waits m None ≡ Some l → height levels m ≡ l
 
+-- the numbers below the length have 32 bits, and each has a place in the queue
+pub record HavePlaces (levels marks : List (Option ℕ)) : Type 0 where
+  pub few : length levels ≤ 4294967295
+  pub waits : length levels ≤ length marks
+
 -- the greatest of the levels kept for the signals' nodes
 abbrev pub tallest : List (Option ℕ) → List Signal → ℕ
 tallest levels [] = 0

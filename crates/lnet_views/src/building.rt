@@ -8,7 +8,7 @@ ghost use Rattle.lnet_model.specs.Networks.{IsLive, entry_at, live_count};
 ghost use Rattle.lnet_model.specs.Along.{In, fanin_nodes, nodes_read};
 ghost use Rattle.lnet_model.specs.Dags.{IsDag, IsStored, NUMBERS, numbers_of};
 ghost use Rattle.lnet_views.specs.Rules.{IsInStep};
-ghost use Rattle.lnet_views.specs.Keeping.{height, kept_at};
+ghost use Rattle.lnet_views.specs.Keeping.{HavePlaces, height, kept_at};
 ghost use Rattle.lnet_views.specs.Chains.{IsIdle};
 ghost use Rattle.lnet_views.specs.Building.{IsBuilding, undone};
 
@@ -148,13 +148,11 @@ fn fill<R: Rule>(values: &mut Vec<R::Value>, rule: &R, room: usize) -> Result<()
 pub fn grow<R: Rule>(kept: &mut Kept<R::Value>, rule: &R, numbers: u32) -> Result<(), AllocError>
     requires values { length kept.old.values.items ≡ length kept.old.levels.items }
     requires idle { IsIdle kept.old.queue }
-    requires waits { length kept.old.levels.items ≤ length kept.old.queue.levels.items }
-    requires few { length kept.old.levels.items ≤ 4294967295 }
+    requires long { HavePlaces kept.old.levels.items kept.old.queue.levels.items }
     requires heads { length kept.old.levels.items < length kept.old.queue.heads.items }
     ensures values { length kept.new.values.items ≡ length kept.new.levels.items }
     ensures idle { IsIdle kept.new.queue }
-    ensures waits { length kept.new.levels.items ≤ length kept.new.queue.levels.items }
-    ensures few { length kept.new.levels.items ≤ 4294967295 }
+    ensures long { HavePlaces kept.new.levels.items kept.new.queue.levels.items }
     ensures heads { length kept.new.levels.items < length kept.new.queue.heads.items }
     ensures grows { length kept.old.levels.items ≤ length kept.new.levels.items }
     ensures room { OnOk result (numbers ≤ length kept.new.levels.items) }
@@ -176,12 +174,11 @@ pub fn grow<R: Rule>(kept: &mut Kept<R::Value>, rule: &R, numbers: u32) -> Resul
 /// Computes all answers from scratch, where none are kept.
 pub fn build<R: Rule>(kept: &mut Kept<R::Value>, rule: &R, store: &Store) -> Result<(), AllocError>
     requires idle { IsIdle kept.old.queue }
-    requires waits { length kept.old.levels.items ≤ length kept.old.queue.levels.items }
-    requires few { length kept.old.levels.items ≤ 4294967295 }
+    requires long { HavePlaces kept.old.levels.items kept.old.queue.levels.items }
     requires empty { (n : ℕ) → slice_index_or kept.old.levels.items n None ≡ None }
+    ensures grows { length kept.old.levels.items ≤ length kept.new.levels.items }
     ensures idle { IsIdle kept.new.queue }
-    ensures waits { length kept.new.levels.items ≤ length kept.new.queue.levels.items }
-    ensures few { length kept.new.levels.items ≤ 4294967295 }
+    ensures long { HavePlaces kept.new.levels.items kept.new.queue.levels.items }
     ensures values { OnOk result (length kept.new.values.items ≡ length kept.new.levels.items) }
     ensures heads { OnOk result (length kept.new.levels.items < length kept.new.queue.heads.items) }
     ensures small { OnOk result ((n : ℕ) → height kept.new.levels.items n ≤ NUMBERS) }

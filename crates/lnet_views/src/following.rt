@@ -56,9 +56,10 @@ impl<R: Rule> Follow<R> {
         })
     }
 
-    /// Whether it is attached. Constant time.
+    /// Whether it is attached; while it isn't, it keeps no answer. Constant time.
     pub fn is_attached(&self) -> bool
-        ensures { result ≡ is_some self.now.rule }
+        ensures value { result ≡ is_some self.now.rule }
+        ensures empty { result ≡ false → (n : ℕ) → answers_in self.now.kept n ≡ None }
     {
         self.rule.is_some()
     }
@@ -69,8 +70,10 @@ impl<R: Rule> Follow<R> {
         requires detached { self.old.rule ≡ None }
         ensures rule { OnOk result (self.new.rule ≡ Some rule) }
         ensures in_step { OnOk result (IsFollowing R.Value.eq R.first_of R.gives self.new.rule (answers_in self.new.kept) store.now.network) }
+        ensures grows { room_in self.old.kept ≤ room_in self.new.kept }
         ensures room { OnOk result (numbers_of store.now.network ≤ room_in self.new.kept) }
         ensures refused { OnErr result (self.new.rule ≡ None) }
+        ensures empty { OnErr result ((n : ℕ) → answers_in self.new.kept n ≡ None) }
     {
         match build(&mut self.kept, &rule, store) {
             Ok(()) => {
@@ -88,6 +91,7 @@ impl<R: Rule> Follow<R> {
     pub fn detach(&mut self)
         ensures rule { self.new.rule ≡ None }
         ensures empty { (n : ℕ) → answers_in self.new.kept n ≡ None }
+        ensures room { room_in self.new.kept ≡ room_in self.old.kept }
     {
         clear(&mut self.kept);
         self.rule = None;

@@ -4,7 +4,7 @@ ghost use Rattle.std.specs.Prelude.{◌≡◌, ℕ, ◌+◌, ◌<◌, ◌≤◌,
 ghost use Rattle.lnet_model.specs.Dags.{NUMBERS};
 ghost use Rattle.lnet_views.specs.Repair.{pair_eq};
 ghost use Rattle.lnet_views.specs.Chains.{IsIdle};
-ghost use Rattle.lnet_views.specs.Keeping.{answer, height, tallest};
+ghost use Rattle.lnet_views.specs.Keeping.{HavePlaces, answer, height, tallest};
 
 use crate::queue::{Queue, lengthen};
 use lnet_gates::{Gate, Node};
@@ -94,11 +94,9 @@ pub fn make_room(
     numbers: u32,
 ) -> Result<(), AllocError>
     requires idle { IsIdle queue.old }
-    requires few { length levels.old.items ≤ 4294967295 }
-    requires waits { length levels.old.items ≤ length queue.old.levels.items }
+    requires long { HavePlaces levels.old.items queue.old.levels.items }
     ensures idle { IsIdle queue.new }
-    ensures few { length levels.new.items ≤ 4294967295 }
-    ensures waits { length levels.new.items ≤ length queue.new.levels.items }
+    ensures long { HavePlaces levels.new.items queue.new.levels.items }
     ensures heads { OnOk result (length levels.new.items < length queue.new.heads.items) }
     ensures more_heads { length queue.old.heads.items ≤ length queue.new.heads.items }
     ensures grows { length levels.old.items ≤ length levels.new.items }

@@ -1,3 +1,4 @@
+use Rattle.lnet_hashed.specs.Watches.{IsBare}
 use Rattle.std.proofs.Common.{◌≡◌, ◌+◌, ◌-◌, ◌≤◌, [], length, drop}
 use Rattle.lnet_model.specs.Dags.{NUMBERS}
 use Rattle.lnet_model.specs.Networks.{live_count}
@@ -9,6 +10,6 @@ abbrev pub invariant-loop-port : goal.invariant-loop-port
 invariant-loop-port g l = record {
   few : live_count l.net.core.network + (length l.ports - l.port-index) ≤ NUMBERS;
   live : AreSignalsLive l.net.core.network l.signals;
-  none : l.net.views.items ≡ [];
+  none : IsBare l.net.watch;
   reached : (b : Building) → Stand l.initial.net.core.network l.initial.signals b → (x : Building) × Stand l.net.core.network l.signals x × (with_ports x (drop l.port-index l.ports) ≡ with_ports b l.ports);
 }

@@ -4,68 +4,62 @@ use Rattle.lnet_model.specs.Along.{In, fanin_nodes}
 use Rattle.lnet_model.specs.Changes.{IsGateAt, without}
 use Rattle.lnet_model.specs.Fanouts.{references}
 use Rattle.lnet_model.specs.Dags.{numbers_of, AreBelow}
-use Rattle.lnet_hashed.specs.Views.{Fits, EachSlot}
-use Rattle.lnet_hashed.proofs.KeptViews.{kept-twice}
+use Rattle.lnet_hashed.specs.Watches.{AreFitIn}
 use Rattle.lnet_hashed.proofs.Indexing.{indexed-same}
 use Rattle.lnet_cascade.proofs.DirtySteps.{no_self}
 use Rattle.lnet_cascade.proofs.Marking.{marks-around}
 use Rattle.lnet_cascade.proofs.RedirectedAll.{all-gate, all-free, all-replaced, outputs-count, outputs-entry}
-use Rattle.lnet_cascade.proofs.SameViews.{fits-outputs, below-outputs}
+use Rattle.lnet_cascade.proofs.SameViews.{fit-outputs, below-outputs}
 use Rattle.lnet_cascade.proofs.redirecting.replace.Goals as goal
 
 pub remove-requires-clause-gate : goal.remove-requires-clause-gate
 remove-requires-clause-gate g c =
-    let C = c.args.store.now.network in
+    let C = c.args.hashed.now.store.network in
     subst (λ N. IsGateAt N c.args.redirection.from.0) (sym c.redirect_outputs.ensures.network)
-    (all-gate C c.redirect_gates.new.store.network c.args.redirection.from.0 c.args.redirection.to (numbers_of C) c.numbers-first.ensures.within c.redirect_gates.ensures.redirected c.requires.free c.requires.live c.requires.gate)
+    (all-gate C c.redirect_gates.new.hashed.store.network c.args.redirection.from.0 c.args.redirection.to (numbers_of C) c.numbers-first.ensures.within c.redirect_gates.ensures.redirected c.requires.free c.requires.live c.requires.gate)
 
 pub remove-requires-clause-free : goal.remove-requires-clause-free
 remove-requires-clause-free g c =
-    let C = c.args.store.now.network in
+    let C = c.args.hashed.now.store.network in
     ap (λ N. references N c.args.redirection.from.0) c.redirect_outputs.ensures.network
-    ∙ all-free C c.redirect_gates.new.store.network c.args.redirection.from.0 c.args.redirection.to (numbers_of C) c.numbers-first.ensures.within c.redirect_gates.ensures.redirected c.requires.free c.requires.live c.requires.gate
+    ∙ all-free C c.redirect_gates.new.hashed.store.network c.args.redirection.from.0 c.args.redirection.to (numbers_of C) c.numbers-first.ensures.within c.redirect_gates.ensures.redirected c.requires.free c.requires.live c.requires.gate
 
-pub remove-requires-clause-room : goal.remove-requires-clause-room
-remove-requires-clause-room g c =
-    let D = c.redirect_gates.new.store.network in
+pub remove-requires-clause-midway : goal.remove-requires-clause-midway
+remove-requires-clause-midway g c =
+    let D = c.redirect_gates.new.hashed.store.network in
     let is = c.redirect_outputs.ensures.network in
     let count = ap live_count is ∙ outputs-count D c.args.redirection.from.0 c.args.redirection.to in
     let spare = c.redirect_outputs.ensures.spare in
-    let stored = c.redirect_gates.ensures.room.stored in
+    let stored = c.redirect_gates.ensures.midway.midway.stored in
     record {
-      below = subst (λ N. AreBelow N c.args.numbers) (sym is) (below-outputs D c.args.redirection.from.0 c.args.redirection.to c.args.numbers c.redirect_gates.ensures.room.below);
+      below = subst (λ N. AreBelow N c.redirect_gates.new.hashed.room) (sym is) (below-outputs D c.args.redirection.from.0 c.args.redirection.to c.redirect_gates.new.hashed.room c.redirect_gates.ensures.midway.midway.below);
       stored = omega arith;
-      limit = c.redirect_gates.ensures.room.limit;
+      limit = c.redirect_gates.ensures.midway.midway.limit;
+      named = c.redirect_gates.ensures.midway.midway.named;
+      indexed =
+          indexed-same D c.redirect_outputs.new.store.network c.redirect_gates.new.hashed.keys c.redirect_gates.new.hashed.room
+          (λ m. ap gate_in (ap (λ N. entry_at N m) c.redirect_outputs.ensures.network ∙ outputs-entry D c.args.redirection.from.0 c.args.redirection.to m))
+          c.redirect_gates.ensures.midway.midway.indexed;
     }
 
 pub remove-requires-clause-fit : goal.remove-requires-clause-fit
 remove-requires-clause-fit g c =
-    subst (λ N. EachSlot (Fits (λ b. (goal.View-dyn g (b.vtable, b.value)).spec_of b.value) (λ b. (goal.View-dyn g (b.vtable, b.value)).kept b.value) (λ b. (goal.View-dyn g (b.vtable, b.value)).room b.value) N c.args.numbers) c.redirect_gates.new.views.items) (sym c.redirect_outputs.ensures.network)
-    (fits-outputs (λ b. (goal.View-dyn g (b.vtable, b.value)).spec_of b.value) (λ b. (goal.View-dyn g (b.vtable, b.value)).kept b.value) (λ b. (goal.View-dyn g (b.vtable, b.value)).room b.value) c.redirect_gates.new.store.network c.args.redirection.from.0 c.args.redirection.to c.args.numbers c.redirect_gates.new.views.items c.redirect_gates.ensures.fit)
-
-pub remove-requires-clause-indexed : goal.remove-requires-clause-indexed
-remove-requires-clause-indexed g c =
-    let D = c.redirect_gates.new.store.network in
-    indexed-same D c.redirect_outputs.new.store.network c.redirect_gates.new.keys c.args.numbers
-    (λ m. ap gate_in (ap (λ N. entry_at N m) c.redirect_outputs.ensures.network ∙ outputs-entry D c.args.redirection.from.0 c.args.redirection.to m))
-    c.redirect_gates.ensures.indexed
+    subst (λ N. AreFitIn (λ b. goal.View-dyn g (b.vtable, b.value)) N c.redirect_gates.new.hashed.room c.redirect_gates.new.watch) (sym c.redirect_outputs.ensures.network)
+    (fit-outputs _ _ _ c.redirect_gates.new.hashed.store.network c.args.redirection.from.0 c.args.redirection.to c.redirect_gates.new.hashed.room c.redirect_gates.new.watch c.redirect_gates.ensures.told.fit)
 
 pub returns-clause-dirty : goal.returns-clause-dirty
 returns-clause-dirty g c =
-    marks-around (λ m. In c.args.redirection.from.0 (fanin_nodes (entry_at c.args.store.now.network m))) c.args.redirection.from.0 c.args.keys.now.dirty.items c.redirect_gates.new.keys.dirty.items c.remove.new.keys.dirty.items
-    (no_self c.args.store.now.network c.args.redirection.from.0 c.numbers-first.ensures.stored) c.redirect_gates.ensures.dirty c.remove.ensures.dirty
+    marks-around (λ m. In c.args.redirection.from.0 (fanin_nodes (entry_at c.args.hashed.now.store.network m))) c.args.redirection.from.0 c.args.hashed.now.keys.dirty.items c.redirect_gates.new.hashed.keys.dirty.items c.remove.new.hashed.keys.dirty.items
+    (no_self c.args.hashed.now.store.network c.args.redirection.from.0 c.numbers-first.ensures.stored) c.redirect_gates.ensures.dirty c.remove.ensures.dirty
 
 pub returns-clause-network : goal.returns-clause-network
 returns-clause-network g c =
-    let C = c.args.store.now.network in
+    let C = c.args.hashed.now.store.network in
     c.remove.ensures.network ∙ ap (λ N. without N c.args.redirection.from.0) c.redirect_outputs.ensures.network
-    ∙ all-replaced C c.redirect_gates.new.store.network c.args.redirection.from.0 c.args.redirection.to (numbers_of C) c.numbers-first.ensures.within c.redirect_gates.ensures.redirected c.requires.free c.requires.live c.requires.gate
+    ∙ all-replaced C c.redirect_gates.new.hashed.store.network c.args.redirection.from.0 c.args.redirection.to (numbers_of C) c.numbers-first.ensures.within c.redirect_gates.ensures.redirected c.requires.free c.requires.live c.requires.gate
 
 pub returns-clause-count : goal.returns-clause-count
 returns-clause-count g c =
     let rest = c.remove.ensures.count in
-    let same : live_count c.redirect_outputs.new.store.network ≡ live_count c.args.store.now.network = ap live_count c.redirect_outputs.ensures.network ∙ outputs-count c.redirect_gates.new.store.network c.args.redirection.from.0 c.args.redirection.to ∙ c.redirect_gates.ensures.redirected.count in
+    let same : live_count c.redirect_outputs.new.store.network ≡ live_count c.args.hashed.now.store.network = ap live_count c.redirect_outputs.ensures.network ∙ outputs-count c.redirect_gates.new.hashed.store.network c.args.redirection.from.0 c.args.redirection.to ∙ c.redirect_gates.ensures.redirected.count in
     rest ∙ same
-
-pub returns-clause-kept : goal.returns-clause-kept
-returns-clause-kept g c = kept-twice c.redirect_gates.ensures.kept c.remove.ensures.kept

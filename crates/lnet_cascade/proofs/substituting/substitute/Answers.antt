@@ -1,15 +1,77 @@
+use Rattle.std.proofs.Common.{ℕ, sym, subst, ◌∙◌, arith}
+use Rattle.lnet_cascade.specs.Losing.{AreNoted}
+use Rattle.lnet_gates.specs.declared.signal.Signal.{Signal}
+use Rattle.lnet_gates.specs.declared.gate.Kind.{Kind}
+use Rattle.lnet_gates.specs.declared.normal.Normal.{Normal}
+use Rattle.lnet_gates.specs.Gates.{GateValue}
+use Rattle.lnet_model.specs.Networks.{NetworkValue, IsLive}
+use Rattle.lnet_model.specs.Along.{Depends}
+use Rattle.lnet_model.specs.Changes.{IsGateAt}
+use Rattle.lnet_hashed.specs.Strashed.{IsStrashed}
+use Rattle.std.specs.Prelude.{slice_set, false}
+use Rattle.lnet_model.specs.Dags.{AreBelow, IsStored}
+use Rattle.lnet_model.proofs.Numbers.{numbers-at-most}
+use Rattle.lnet_hashed.proofs.Indexing.{clear-set}
+use Rattle.lnet_cascade.proofs.Whole.{begins, begins-gates, ends-below, substitutes}
 use Rattle.lnet_substitution.specs.Substitutions.{CanSubstitute}
 use Rattle.lnet_substitution.proofs.Substituted.{substituted-IsStrashed}
 use Rattle.lnet_cascade.proofs.substituting.substitute.Goals as goal
 
+can :
+    (kind : Kind) (form : GateValue → Normal) (N : NetworkValue) (o : ℕ) (s : Signal) → IsStored N → IsStrashed kind form N → IsGateAt N o → IsLive N s.node.0 → (Depends N s o → ⊥) →
+    CanSubstitute kind form N o s
+can kind form N o s stored strashed gate live free = record { acyclic = stored.dag.acyclic; whole = stored.whole; strashed = strashed; gate = gate; live = live; free = free }
+
+pub note_named-requires : goal.note_named-requires
+note_named-requires g c =
+    let most = numbers-at-most c.args.hashed.now.store.network c.args.hashed.now.room c.requires.room.below in
+    let is = c.numbers-end.ensures.value in
+    let long = c.requires.room.named in
+    omega arith
+
+pub cascade-requires-clause-begun : goal.cascade-requires-clause-begun
+cascade-requires-clause-begun g c =
+    let N = c.args.hashed.now.store.network in (
+      N,
+      c.args.gate.0,
+      c.args.signal,
+      (can g.G.Gates.KIND g.G.Gates.form c.args.hashed.now.store.network c.args.gate.0 c.args.signal c.numbers-end.ensures.stored c.requires.strashed c.requires.gate c.requires.live c.requires.free),
+      begins g.G.Gates.KIND g.G.Gates.form g.met.G.Gates.laws N c.args.gate.0 c.args.signal
+          (can g.G.Gates.KIND g.G.Gates.form N c.args.gate.0 c.args.signal c.numbers-end.ensures.stored c.requires.strashed c.requires.gate c.requires.live c.requires.free)
+          c.numbers-end.ensures.stored (slice_set c.args.hashed.now.keys.dirty.items c.args.gate.0 false) (clear-set c.args.hashed.now.keys.dirty.items c.args.gate.0 c.requires.room.clean)
+          c.replace.new.hashed.store.network c.replace.ensures.network c.replace.new.hashed.keys.dirty.items c.replace.ensures.dirty,
+    )
+
+pub cascade-requires-clause-gates : goal.cascade-requires-clause-gates
+cascade-requires-clause-gates g c =
+    begins-gates g.G.Gates.KIND g.G.Gates.form g.met.G.Gates.laws c.args.hashed.now.store.network c.args.gate.0 c.args.signal
+    (can g.G.Gates.KIND g.G.Gates.form c.args.hashed.now.store.network c.args.gate.0 c.args.signal c.numbers-end.ensures.stored c.requires.strashed c.requires.gate c.requires.live c.requires.free)
+    c.numbers-end.ensures.stored (slice_set c.args.hashed.now.keys.dirty.items c.args.gate.0 false) (clear-set c.args.hashed.now.keys.dirty.items c.args.gate.0 c.requires.room.clean)
+    c.replace.new.hashed.store.network c.replace.ensures.network c.replace.new.hashed.keys.dirty.items c.replace.ensures.dirty
+
+pub sweep_lost-requires-clause-below : goal.sweep_lost-requires-clause-below
+sweep_lost-requires-clause-below g c =
+    ends-below g.G.Gates.KIND g.G.Gates.form g.met.G.Gates.laws c.args.hashed.now.store.network c.args.gate.0 c.args.signal
+    (can g.G.Gates.KIND g.G.Gates.form c.args.hashed.now.store.network c.args.gate.0 c.args.signal c.numbers-end.ensures.stored c.requires.strashed c.requires.gate c.requires.live c.requires.free)
+    c.numbers-end.ensures.stored (slice_set c.args.hashed.now.keys.dirty.items c.args.gate.0 false) (clear-set c.args.hashed.now.keys.dirty.items c.args.gate.0 c.requires.room.clean)
+    c.replace.new.hashed.store.network c.replace.ensures.network c.replace.new.hashed.keys.dirty.items c.replace.ensures.dirty
+    c.cascade.new.hashed.store.network c.cascade.new.hashed.keys.dirty.items c.cascade.ensures.goes_on c.numbers-end.result
+    (subst (AreBelow c.args.hashed.now.store.network) (sym c.numbers-end.ensures.value) c.numbers-end.ensures.within)
+
+pub returns-clause-substitutes : goal.returns-clause-substitutes
+returns-clause-substitutes g c =
+    substitutes g.G.Gates.KIND g.G.Gates.form g.met.G.Gates.laws c.args.hashed.now.store.network c.args.gate.0 c.args.signal
+    (can g.G.Gates.KIND g.G.Gates.form c.args.hashed.now.store.network c.args.gate.0 c.args.signal c.numbers-end.ensures.stored c.requires.strashed c.requires.gate c.requires.live c.requires.free)
+    c.numbers-end.ensures.stored (slice_set c.args.hashed.now.keys.dirty.items c.args.gate.0 false) (clear-set c.args.hashed.now.keys.dirty.items c.args.gate.0 c.requires.room.clean)
+    c.replace.new.hashed.store.network c.replace.ensures.network c.replace.new.hashed.keys.dirty.items c.replace.ensures.dirty
+    c.cascade.new.hashed.store.network c.cascade.new.hashed.keys.dirty.items c.cascade.ensures.goes_on c.numbers-end.result
+    (subst (AreBelow c.args.hashed.now.store.network) (sym c.numbers-end.ensures.value) c.numbers-end.ensures.within)
+    c.cascade.ensures.clean c.cascade.new.hashed.named.items
+    (subst (AreNoted c.args.hashed.now.store.network c.numbers-end.result) (sym (c.cascade.ensures.midway.named ∙ c.replace.ensures.midway.named)) c.note_named.ensures.noted)
+    c.sweep_lost.new.hashed.store.network c.sweep_lost.ensures.drops c.sweep_lost.ensures.none
+
 pub returns-clause-strashed : goal.returns-clause-strashed
 returns-clause-strashed g c =
-    let can : CanSubstitute g.G.Gates.KIND g.G.Gates.form c.args.hashed.now.store.network c.args.gate.0 c.args.signal = record {
-      acyclic = c.live_count-live.ensures.stored.dag.acyclic;
-      whole = c.live_count-live.ensures.stored.whole;
-      strashed = c.requires.strashed;
-      gate = c.requires.gate;
-      live = c.requires.live;
-      free = c.requires.free;
-    } in
-    substituted-IsStrashed g.G.Gates.KIND g.G.Gates.form g.met.G.Gates.laws c.args.hashed.now.store.network c.args.gate.0 c.args.signal can c.substitute_in.new.store.network c.substitute_in.ensures.substitutes
+    substituted-IsStrashed g.G.Gates.KIND g.G.Gates.form g.met.G.Gates.laws c.args.hashed.now.store.network c.args.gate.0 c.args.signal
+    (can g.G.Gates.KIND g.G.Gates.form c.args.hashed.now.store.network c.args.gate.0 c.args.signal c.numbers-end.ensures.stored c.requires.strashed c.requires.gate c.requires.live c.requires.free)
+    c.sweep_lost.new.hashed.store.network (returns-clause-substitutes g c)

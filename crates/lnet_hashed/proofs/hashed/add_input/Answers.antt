@@ -1,10 +1,10 @@
 use Rattle.std.proofs.Common.{sym, ap, subst, ◌∙◌, arith}
 use Rattle.lnet_model.specs.Dags.{IsDag, AreBelow}
 use Rattle.lnet_hashed.specs.Strashed.{least_free}
-use Rattle.lnet_hashed.specs.Views.{EachSlot, Fits}
+use Rattle.lnet_hashed.specs.Watches.{AreFitIn}
 use Rattle.lnet_hashed.proofs.Adding.{least-is}
 use Rattle.lnet_hashed.proofs.Indexing.{indexed-same}
-use Rattle.lnet_hashed.proofs.SameNodes.{dag-same, fits-same, below-same, input-live, input-below, input-count, input-gates}
+use Rattle.lnet_hashed.proofs.SameNodes.{dag-same, fit-same, below-same, input-live, input-below, input-count, input-gates}
 use Rattle.lnet_hashed.proofs.hashed.add_input.Goals as goal
 
 pub tell-requires-clause-before : goal.tell-requires-clause-before
@@ -22,8 +22,8 @@ tell-requires-clause-below_before g c =
 
 pub tell-requires-clause-fit : goal.tell-requires-clause-fit
 tell-requires-clause-fit g c =
-    subst (λ N. EachSlot (Fits (λ b. (goal.View-dyn g (b.vtable, b.value)).spec_of b.value) (λ b. (goal.View-dyn g (b.vtable, b.value)).kept b.value) (λ b. (goal.View-dyn g (b.vtable, b.value)).room b.value) N c.make_room.new.hashed.room) c.make_room.new.views.items) (sym c.in-Ok.ensures.was)
-    (fits-same (λ b. (goal.View-dyn g (b.vtable, b.value)).spec_of b.value) (λ b. (goal.View-dyn g (b.vtable, b.value)).kept b.value) (λ b. (goal.View-dyn g (b.vtable, b.value)).room b.value) c.make_room.new.hashed.store.network c.add_input.new.self.network.inputs c.make_room.new.hashed.room c.make_room.new.views.items c.make_room.ensures.fit)
+    subst (λ N. AreFitIn (λ b. goal.View-dyn g (b.vtable, b.value)) N c.make_room.new.hashed.room c.make_room.new.watch) (sym c.in-Ok.ensures.was)
+    (fit-same _ _ _ c.make_room.new.hashed.store.network c.add_input.new.self.network.inputs c.make_room.new.hashed.room c.make_room.new.watch c.make_room.ensures.told.fit)
 
 pub returns-in-Ok-clause-node : goal.returns-in-Ok-clause-node
 returns-in-Ok-clause-node g c =

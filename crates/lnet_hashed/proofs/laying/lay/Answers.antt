@@ -1,9 +1,10 @@
-use Rattle.std.proofs.Common.{rules, ◌≡◌, ◌+◌, Result, Err, drop, ap, sym, ◌∙◌, arith}
+use Rattle.std.proofs.Common.{◌≡◌, ◌+◌, Result, Err, drop, ap, sym, ◌∙◌, arith}
 use Rattle.lnet_gates.specs.declared.signal.Signal.{Signal}
 use Rattle.lnet_store.specs.declared.store.AddError.{AddError}
 use Rattle.lnet_model.specs.Networks.{NetworkValue, live_count}
 use Rattle.lnet_hashed.specs.Strashed.{Placed}
 use Rattle.lnet_hashed.specs.Laid.{laid_steps, Laid, signal_at}
+use Rattle.lnet_hashed.proofs.KeptViews.{told_twice}
 use Rattle.lnet_hashed.proofs.LaidValues.{steps-from, laid_none, laid_done}
 use Rattle.lnet_hashed.proofs.laying.lay.Goals as goal
 
@@ -46,8 +47,7 @@ loop-i-preserved g c =
       few_places = omega arith;
       room = c.lay_step.ensures.room;
       grows = omega arith;
-      fit = c.lay_step.ensures.fit;
-      kept = search rules;
+      told = told_twice c.loop-i.invariant.told c.lay_step.ensures.told;
     }
 
 pub returns-clause-laid : goal.returns-clause-laid

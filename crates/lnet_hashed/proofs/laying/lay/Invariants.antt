@@ -4,7 +4,7 @@ use Rattle.lnet_model.specs.Along.{nodes_read}
 use Rattle.lnet_model.specs.Changes.{AreLive}
 use Rattle.lnet_hashed.specs.Laid.{laid_steps}
 use Rattle.lnet_hashed.specs.Undoing.{undone, IsUndoable}
-use Rattle.lnet_hashed.specs.Views.{EachSlot, Fits, Kept, SlotsKept}
+use Rattle.lnet_hashed.specs.Watches.{AreToldIn}
 use Rattle.lnet_hashed.specs.Rooms.{HasRoom}
 use Rattle.lnet_hashed.proofs.laying.lay.Given as goal
 
@@ -18,6 +18,5 @@ invariant-loop-i g l = record {
   few_places : length l.laying.places.items ≡ 1 + length l.leaves + l.i;
   room : HasRoom l.hashed;
   grows : l.initial.hashed.room ≤ l.hashed.room;
-  fit : EachSlot (Fits (λ b. (goal.View-dyn g (b.vtable, b.value)).spec_of b.value) (λ b. (goal.View-dyn g (b.vtable, b.value)).kept b.value) (λ b. (goal.View-dyn g (b.vtable, b.value)).room b.value) l.hashed.store.network l.hashed.room) l.views.items;
-  kept : SlotsKept (Kept (λ b. (goal.View-dyn g (b.vtable, b.value)).kind_of b.value) (λ b. (goal.View-dyn g (b.vtable, b.value)).spec_of b.value) (λ b. (goal.View-dyn g (b.vtable, b.value)).room b.value)) l.initial.views.items l.views.items;
+  told : AreToldIn (λ b. goal.View-dyn g (b.vtable, b.value)) l.hashed.store.network l.hashed.room l.initial.watch l.watch;
 }

@@ -1,6 +1,6 @@
 use Rattle.std.proofs.Common.{◌≡◌, reverse, length}
 use Rattle.lnet_hashed.specs.Undoing.{undone, IsUndoable}
-use Rattle.lnet_hashed.specs.Views.{EachSlot, Fits, Kept, SlotsKept}
+use Rattle.lnet_hashed.specs.Watches.{AreToldIn}
 use Rattle.lnet_hashed.specs.Rooms.{HasRoom}
 use Rattle.lnet_hashed.proofs.laying.undo.Given as goal
 
@@ -10,8 +10,7 @@ invariant-loop-n g l = record {
   network : undone (reverse l.added.items) l.hashed.store.network ≡ undone (reverse l.initial.added.items) l.initial.hashed.store.network;
   room : HasRoom l.hashed;
   same : l.hashed.room ≡ l.initial.hashed.room;
-  fit : EachSlot (Fits (λ b. (goal.View-dyn g (b.vtable, b.value)).spec_of b.value) (λ b. (goal.View-dyn g (b.vtable, b.value)).kept b.value) (λ b. (goal.View-dyn g (b.vtable, b.value)).room b.value) l.hashed.store.network l.hashed.room) l.views.items;
-  kept : SlotsKept (Kept (λ b. (goal.View-dyn g (b.vtable, b.value)).kind_of b.value) (λ b. (goal.View-dyn g (b.vtable, b.value)).spec_of b.value) (λ b. (goal.View-dyn g (b.vtable, b.value)).room b.value)) l.initial.views.items l.views.items;
+  told : AreToldIn (λ b. goal.View-dyn g (b.vtable, b.value)) l.hashed.store.network l.hashed.room l.initial.watch l.watch;
 }
 
 abbrev pub decreases-loop-n : goal.decreases-loop-n

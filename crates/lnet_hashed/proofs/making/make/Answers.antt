@@ -1,4 +1,4 @@
-use Rattle.std.proofs.Common.{◌≡◌, ◌<◌, IfOk, ap, subst, sym, ◌∙◌}
+use Rattle.std.proofs.Common.{◌≡◌, ◌<◌, IfOk, ap, subst, sym, ◌∙◌, min}
 use Rattle.lnet_gates.specs.declared.planning.Plan.TheVariants.{Native, Steps}
 use Rattle.lnet_model.specs.Networks.{live_count}
 use Rattle.lnet_model.specs.Dags.{NUMBERS}
@@ -19,7 +19,7 @@ returns-in-Native-clause-full g c e =
 pub returns-in-Native-clause-memory : goal.returns-in-Native-clause-memory
 returns-in-Native-clause-memory g c e =
     let same = made_by g.G.Gates.KIND g.G.Gates.form c.args.hashed.now.store.network c.args.op c.args.operands.now Native (sym c.in-Native.is ∙ c.plan.ensures.plan) ∙ ap (placed g.G.Gates.form c.args.hashed.now.store.network) (sym c.gate_on-gate.ensures) in
-    subst (λ (p : Placed). c.args.hashed.now.room < live_count p.network) (sym same) (c.place.ensures.memory e)
+    subst (λ (p : Placed). c.args.hashed.now.room < min NUMBERS (live_count p.network)) (sym same) (c.place.ensures.memory e)
 
 pub returns-in-Steps-clause-made : goal.returns-in-Steps-clause-made
 returns-in-Steps-clause-made g c =
@@ -34,4 +34,4 @@ returns-in-Steps-clause-full g c e =
 pub returns-in-Steps-clause-memory : goal.returns-in-Steps-clause-memory
 returns-in-Steps-clause-memory g c e =
     let same = made_by g.G.Gates.KIND g.G.Gates.form c.args.hashed.now.store.network c.args.op c.args.operands.now (Steps c.in-Steps.recipe) (sym c.in-Steps.is ∙ c.plan.ensures.plan) in
-    subst (λ (p : Placed). c.args.hashed.now.room < live_count p.network) (sym same) (c.lay.ensures.memory e)
+    subst (λ (p : Placed). c.args.hashed.now.room < min NUMBERS (live_count p.network)) (sym same) (c.lay.ensures.memory e)

@@ -1,4 +1,4 @@
-use Rattle.std.proofs.Common.{◌≡◌, ◌<◌, IfOk, sym, ap, subst, ◌∙◌, arith}
+use Rattle.std.proofs.Common.{◌≡◌, ◌<◌, IfOk, sym, ap, subst, ◌∙◌, arith, min}
 use Rattle.lnet_gates.specs.NormalLaws.{IsNativeForm}
 use Rattle.lnet_gates.specs.Natives.{IsNativeGate}
 use Rattle.lnet_gates.specs.declared.normal.Normal.TheVariants.{Is, Gate}
@@ -38,7 +38,7 @@ returns-in-Gate-clause-full g c =
 pub returns-in-Gate-clause-memory : goal.returns-in-Gate-clause-memory
 returns-in-Gate-clause-memory g c e =
     let same = ap (λ (p : Placed). live_count p.network) (placed-as g.G.Gates.form c.args.hashed.now.store.network c.args.gate.now (Gate c.in-Gate.key c.in-Gate.phase) (sym c.normal.ensures ∙ c.in-Gate.is)) in
-    subst (λ n. c.args.hashed.now.room < n) (sym same) (c.place_key.ensures.memory e)
+    subst (λ n. c.args.hashed.now.room < min NUMBERS n) (sym same) (c.place_key.ensures.memory e)
 
 pub returns-in-Is-clause-live : goal.returns-in-Is-clause-live
 returns-in-Is-clause-live g c =

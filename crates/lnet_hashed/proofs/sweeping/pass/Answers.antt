@@ -4,7 +4,7 @@ use Rattle.lnet_model.specs.Networks.{live_count}
 use Rattle.lnet_model.specs.Dags.{IsStored}
 use Rattle.lnet_model.proofs.Stored.{stored-remove, count-remove}
 use Rattle.lnet_hashed.specs.Swept.{IsTrimmed, IsUnnamed}
-use Rattle.lnet_hashed.proofs.KeptViews.{kept-twice}
+use Rattle.lnet_hashed.proofs.KeptViews.{told_twice}
 use Rattle.lnet_hashed.proofs.Reached.{trimmed-twice, trimmed-without}
 use Rattle.lnet_hashed.proofs.sweeping.pass.Goals as goal
 
@@ -24,8 +24,7 @@ loop-n-preserved-then-remove_unnamed g c =
       none = λ e. cc;
       room = c.remove_unnamed.ensures.room;
       same = omega arith;
-      fit = c.remove_unnamed.ensures.fit;
-      kept = kept-twice c.loop-n.invariant.kept c.remove_unnamed.ensures.kept;
+      told = told_twice c.loop-n.invariant.told c.remove_unnamed.ensures.told;
     }
 
 pub loop-n-preserved : goal.loop-n-preserved
@@ -48,6 +47,5 @@ loop-n-preserved g c =
           );
       room = c.remove_unnamed.ensures.room;
       same = omega arith;
-      fit = c.remove_unnamed.ensures.fit;
-      kept = kept-twice c.loop-n.invariant.kept c.remove_unnamed.ensures.kept;
+      told = told_twice c.loop-n.invariant.told c.remove_unnamed.ensures.told;
     }

@@ -2,7 +2,7 @@ use Rattle.std.proofs.Common.{◌≡◌, ◌<◌, ◌≤◌, ℕ, IsTrue, false}
 use Rattle.lnet_model.specs.Networks.{live_count}
 use Rattle.lnet_model.specs.Dags.{IsStored}
 use Rattle.lnet_hashed.specs.Swept.{IsTrimmed, IsUnnamed}
-use Rattle.lnet_hashed.specs.Views.{EachSlot, Fits, Kept, SlotsKept}
+use Rattle.lnet_hashed.specs.Watches.{AreToldIn}
 use Rattle.lnet_hashed.specs.Rooms.{HasRoom}
 use Rattle.lnet_hashed.proofs.sweeping.pass.Given as goal
 
@@ -17,6 +17,5 @@ invariant-loop-n g l = record {
   none : l.removed ≡ false → (m : ℕ) → l.n ≤ m → IsUnnamed l.hashed.store.network m → ⊥;
   room : HasRoom l.hashed;
   same : l.hashed.room ≡ l.initial.hashed.room;
-  fit : EachSlot (Fits (λ b. (goal.View-dyn g (b.vtable, b.value)).spec_of b.value) (λ b. (goal.View-dyn g (b.vtable, b.value)).kept b.value) (λ b. (goal.View-dyn g (b.vtable, b.value)).room b.value) l.hashed.store.network l.hashed.room) l.views.items;
-  kept : SlotsKept (Kept (λ b. (goal.View-dyn g (b.vtable, b.value)).kind_of b.value) (λ b. (goal.View-dyn g (b.vtable, b.value)).spec_of b.value) (λ b. (goal.View-dyn g (b.vtable, b.value)).room b.value)) l.initial.views.items l.views.items;
+  told : AreToldIn (λ b. goal.View-dyn g (b.vtable, b.value)) l.hashed.store.network l.hashed.room l.initial.watch l.watch;
 }

@@ -1,5 +1,5 @@
 use Rattle.std.proofs.Common.{arith}
-use Rattle.lnet_hashed.proofs.KeptViews.{kept-twice}
+use Rattle.lnet_hashed.proofs.KeptViews.{told_twice}
 use Rattle.lnet_hashed.proofs.Reached.{trimmed-twice, trimmed-swept}
 use Rattle.lnet_hashed.proofs.sweeping.sweep.Goals as goal
 
@@ -8,8 +8,7 @@ passes-preserved g c = record {
   trimmed = trimmed-twice c.args.hashed.now.store.network c.passes.hashed.store.network c.pass.new.hashed.store.network c.passes.invariant.trimmed c.pass.ensures.trimmed;
   room = c.pass.ensures.room;
   same = omega arith;
-  fit = c.pass.ensures.fit;
-  kept = kept-twice c.passes.invariant.kept c.pass.ensures.kept;
+  told = told_twice c.passes.invariant.told c.pass.ensures.told;
 }
 
 pub returns-clause-network : goal.returns-clause-network

@@ -1,7 +1,7 @@
 use Rattle.std.proofs.Common.{◌≡◌}
 use Rattle.lnet_model.specs.Networks.{live_count}
 use Rattle.lnet_hashed.specs.Swept.{IsTrimmed}
-use Rattle.lnet_hashed.specs.Views.{EachSlot, Fits, Kept, SlotsKept}
+use Rattle.lnet_hashed.specs.Watches.{AreToldIn}
 use Rattle.lnet_hashed.specs.Rooms.{HasRoom}
 use Rattle.lnet_hashed.proofs.sweeping.sweep.Given as goal
 
@@ -10,8 +10,7 @@ invariant-passes g l = record {
   trimmed : IsTrimmed l.initial.hashed.store.network l.hashed.store.network;
   room : HasRoom l.hashed;
   same : l.hashed.room ≡ l.initial.hashed.room;
-  fit : EachSlot (Fits (λ b. (goal.View-dyn g (b.vtable, b.value)).spec_of b.value) (λ b. (goal.View-dyn g (b.vtable, b.value)).kept b.value) (λ b. (goal.View-dyn g (b.vtable, b.value)).room b.value) l.hashed.store.network l.hashed.room) l.views.items;
-  kept : SlotsKept (Kept (λ b. (goal.View-dyn g (b.vtable, b.value)).kind_of b.value) (λ b. (goal.View-dyn g (b.vtable, b.value)).spec_of b.value) (λ b. (goal.View-dyn g (b.vtable, b.value)).room b.value)) l.initial.views.items l.views.items;
+  told : AreToldIn (λ b. goal.View-dyn g (b.vtable, b.value)) l.hashed.store.network l.hashed.room l.initial.watch l.watch;
 }
 
 abbrev pub decreases-passes : goal.decreases-passes

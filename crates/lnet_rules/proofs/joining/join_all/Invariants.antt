@@ -1,3 +1,4 @@
+use Rattle.lnet_hashed.specs.Watches.{IsBare}
 use Rattle.std.proofs.Common.{◌≡◌, [], drop}
 use Rattle.lnet_model.specs.Networks.{IsLive}
 use Rattle.lnet_model.specs.Along.{nodes_read}
@@ -12,5 +13,5 @@ invariant-loop-other g l = record {
   joined_live : IsLive l.net.core.network l.joined.node.0;
   live : AreLive l.net.core.network (nodes_read l.others);
   keeps : KeepsLive l.initial.net.core.network l.net.core.network;
-  none : l.net.views.items ≡ [];
+  none : IsBare l.net.watch;
 }

@@ -1,3 +1,4 @@
+use Rattle.lnet_hashed.specs.Watches.{IsBare}
 use Rattle.std.proofs.Common.{◌≡◌, [], drop}
 use Rattle.lnet_model.specs.Networks.{IsLive}
 use Rattle.lnet_model.specs.Along.{nodes_read}
@@ -12,5 +13,5 @@ invariant-loop-k g l = record {
   built_live : IsLive l.net.core.network l.built.node.0;
   live : AreLive l.net.core.network (nodes_read l.operands);
   keeps : KeepsLive l.fn.net.core.network l.net.core.network;
-  none : l.net.views.items ≡ [];
+  none : IsBare l.net.watch;
 }

@@ -1,22 +1,8 @@
-use Rattle.lnet_hashed.specs.Views.{EachSlot, Fits}
+use Rattle.lnet_hashed.specs.Watches.{AreFitIn}
 use Rattle.lnet_test_networks.proofs.networks.build.Given as goal
 
 abbrev pub invariant-loop : goal.invariant-loop
-invariant-loop g l =
-    EachSlot
-    (Fits (λ b. (goal.View-dyn g (b.vtable, b.value)).spec_of b.value)
-    (λ b. (goal.View-dyn g (b.vtable, b.value)).kept b.value)
-    (λ b. (goal.View-dyn g (b.vtable, b.value)).room b.value)
-    l.network.core.network
-    l.network.core.room)
-    l.network.views.items
+invariant-loop g l = AreFitIn (λ b. goal.View-dyn g (b.vtable, b.value)) l.network.core.network l.network.core.room l.network.watch
 
 abbrev pub invariant-loop-row : goal.invariant-loop-row
-invariant-loop-row g l =
-    EachSlot
-    (Fits (λ b. (goal.View-dyn g (b.vtable, b.value)).spec_of b.value)
-    (λ b. (goal.View-dyn g (b.vtable, b.value)).kept b.value)
-    (λ b. (goal.View-dyn g (b.vtable, b.value)).room b.value)
-    l.network.core.network
-    l.network.core.room)
-    l.network.views.items
+invariant-loop-row g l = AreFitIn (λ b. goal.View-dyn g (b.vtable, b.value)) l.network.core.network l.network.core.room l.network.watch

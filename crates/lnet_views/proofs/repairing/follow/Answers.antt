@@ -17,10 +17,10 @@ gate-some : (N : NetworkValue) (n : ℕ) → IsGateAt N n → IsSome (gate_at N 
 gate-some N n g = subst (λ o. IsSome (gate_in o)) (sym g.1) refl
 
 pub repair-requires-clause-gate : goal.repair-requires-clause-gate
-repair-requires-clause-gate g c = gate-some c.args.look.now.network c.in-Modified.n.0 (subst (λ e. IsEvent e c.args.look.now.network) c.in-Modified.is c.requires.event)
+repair-requires-clause-gate g c = gate-some c.args.look.now.network c.in-Modified.n.0 (subst (λ e. IsEvent e c.args.look.now.network) c.in-Modified.is c.requires.event).0
 
 pub repair-requires-clause-sound : goal.repair-requires-clause-sound
-repair-requires-clause-sound g c = modified-sound c.args.look.now.network c.in-Modified.n.0 c.in-Modified.old _ _ _ (gate-some c.args.look.now.network c.in-Modified.n.0 (subst (λ e. IsEvent e c.args.look.now.network) c.in-Modified.is c.requires.event)) (subst (λ e. IsSound (was e c.args.look.now.network) c.args.kept.now.values.items c.args.kept.now.levels.items c.args.kept.now.queue.levels.items) c.in-Modified.is c.requires.sound)
+repair-requires-clause-sound g c = modified-sound c.args.look.now.network c.in-Modified.n.0 c.in-Modified.old _ _ _ (gate-some c.args.look.now.network c.in-Modified.n.0 (subst (λ e. IsEvent e c.args.look.now.network) c.in-Modified.is c.requires.event).0) (subst (λ e. IsSound (was e c.args.look.now.network) c.args.kept.now.values.items c.args.kept.now.levels.items c.args.kept.now.queue.levels.items) c.in-Modified.is c.requires.sound)
 
 pub leave-requires : goal.leave-requires
 leave-requires g c = record { inside = leave-inside c.args.look.now.network c.in-Deleted.n.0 c.in-Deleted.field-1 c.args.kept.now.values.items c.args.kept.now.levels.items c.args.kept.now.queue.levels.items (subst (λ e. IsSound (was e c.args.look.now.network) c.args.kept.now.values.items c.args.kept.now.levels.items c.args.kept.now.queue.levels.items) c.in-Deleted.is c.requires.sound) }

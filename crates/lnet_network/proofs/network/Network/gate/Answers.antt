@@ -1,12 +1,13 @@
-use Rattle.std.proofs.Common.{◌<◌, IfOk, Result, Ok, Err, sym, ap, subst, ◌∙◌}
+use Rattle.std.proofs.Common.{◌<◌, IfOk, Result, Ok, Err, sym, ap, subst, ◌∙◌, min}
 use Rattle.lnet_model.specs.Networks.{live_count}
 use Rattle.lnet_model.specs.Along.{nodes_read}
 use Rattle.lnet_model.specs.Changes.{AreLive}
 use Rattle.lnet_model.specs.Dags.{NUMBERS}
 use Rattle.lnet_hashed.specs.Strashed.{Placed}
 use Rattle.lnet_hashed.specs.Laid.{made}
-use Rattle.lnet_hashed.specs.Views.{EachSlot, Fits}
-use Rattle.lnet_network.proofs.OfKind.{strashed-after, kinded, count-kind, made-kind, live-kind, fits-kind, kind-fits}
+use Rattle.lnet_hashed.specs.Strashed.{of_kind}
+use Rattle.lnet_hashed.specs.Watches.{AreFitIn, AreToldIn}
+use Rattle.lnet_network.proofs.OfKind.{strashed-after, kinded, count-kind, made-kind, live-kind, fit-kind, kind-fit, told-kind}
 use Rattle.lnet_network.proofs.network.Network.gate.Goals as goal
 
 if-ok : {A E : Type 0} {P Q : A → Type 0} (r : Result A E) → ((a : A) → P a → Q a) → IfOk r P → IfOk r Q
@@ -19,8 +20,8 @@ make-requires-clause-live g c =
 
 pub make-requires-clause-fit : goal.make-requires-clause-fit
 make-requires-clause-fit g c =
-    kind-fits (λ b. (goal.View-dyn g (b.vtable, b.value)).spec_of b.value) (λ b. (goal.View-dyn g (b.vtable, b.value)).kept b.value) (λ b. (goal.View-dyn g (b.vtable, b.value)).room b.value) g.G.Gates.KIND c.self.inside.0.0.hashed.store.network c.self.inside.0.0.hashed.room c.self.inside.0.1.0.items
-    (subst (λ n. EachSlot (Fits (λ b. (goal.View-dyn g (b.vtable, b.value)).spec_of b.value) (λ b. (goal.View-dyn g (b.vtable, b.value)).kept b.value) (λ b. (goal.View-dyn g (b.vtable, b.value)).room b.value) n.core.network n.core.room) n.views.items) (sym c.self.view_is) c.requires.in_step)
+    kind-fit g.G.Gates.KIND c.self.inside.0.0.hashed.store.network c.self.inside.0.0.hashed.room
+    (subst (λ n. AreFitIn (λ b. goal.View-dyn g (b.vtable, b.value)) n.core.network n.core.room n.watch) (sym c.self.view_is) c.requires.in_step)
 
 pub invariant_of-self : goal.invariant_of-self
 invariant_of-self g c =
@@ -39,8 +40,10 @@ returns-clause-full g c e =
 pub returns-clause-memory : goal.returns-clause-memory
 returns-clause-memory g c e =
     let same = ap (λ n. made g.G.Gates.KIND g.G.Gates.form n.core.network c.args.op c.args.operands.now) (sym c.self.view_is) ∙ made-kind g.G.Gates.KIND g.G.Gates.form c.self.inside.0.0.hashed.store.network c.args.op c.args.operands.now in
-    let more = subst (λ (p : Placed). c.self.inside.0.0.hashed.room < live_count p.network) (sym same) (subst (λ n. c.self.inside.0.0.hashed.room < n) (sym (count-kind g.G.Gates.KIND (made g.G.Gates.KIND g.G.Gates.form c.self.inside.0.0.hashed.store.network c.args.op c.args.operands.now).network)) (c.make.ensures.memory e)) in
-    subst (λ n. n < live_count (made g.G.Gates.KIND g.G.Gates.form c.args.self.now.core.network c.args.op c.args.operands.now).network) (ap (λ n. n.core.room) c.self.view_is) more
+    let more = subst (λ (p : Placed). c.self.inside.0.0.hashed.room < min NUMBERS (live_count p.network)) (sym same) (subst (λ n. c.self.inside.0.0.hashed.room < min NUMBERS n) (sym (count-kind g.G.Gates.KIND (made g.G.Gates.KIND g.G.Gates.form c.self.inside.0.0.hashed.store.network c.args.op c.args.operands.now).network)) (c.make.ensures.memory e)) in
+    subst (λ n. n < min NUMBERS (live_count (made g.G.Gates.KIND g.G.Gates.form c.args.self.now.core.network c.args.op c.args.operands.now).network)) (ap (λ n. n.core.room) c.self.view_is) more
 
 pub returns-clause-in_step : goal.returns-clause-in_step
-returns-clause-in_step g c = fits-kind (λ b. (goal.View-dyn g (b.vtable, b.value)).spec_of b.value) (λ b. (goal.View-dyn g (b.vtable, b.value)).kept b.value) (λ b. (goal.View-dyn g (b.vtable, b.value)).room b.value) g.G.Gates.KIND c.make.new.hashed.store.network c.make.new.hashed.room c.make.new.views.items c.make.ensures.fit
+returns-clause-in_step g c =
+    subst (λ n. AreToldIn (λ b. goal.View-dyn g (b.vtable, b.value)) (of_kind g.G.Gates.KIND c.make.new.hashed.store.network) c.make.new.hashed.room n.watch c.make.new.watch) c.self.view_is
+    (told-kind g.G.Gates.KIND c.make.new.hashed.store.network c.make.new.hashed.room c.make.ensures.told)

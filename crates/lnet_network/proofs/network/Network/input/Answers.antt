@@ -1,12 +1,13 @@
-use Rattle.std.proofs.Common.{◌≡◌, ◌≤◌, ℕ, false, IfOk, OnOk, Result, Ok, Err, sym, ap, subst, ◌∙◌}
+use Rattle.std.proofs.Common.{◌≡◌, ◌<◌, ◌≤◌, ℕ, false, IfOk, OnOk, Result, Ok, Err, sym, ap, subst, ◌∙◌}
 use Rattle.lnet_gates.specs.declared.signal.Signal.{Signal}
 use Rattle.lnet_gates.specs.declared.signal.Node.{Node}
 use Rattle.lnet_store.specs.declared.store.AddError.{AddError}
 use Rattle.lnet_model.specs.Networks.{live_count}
+use Rattle.lnet_model.specs.Dags.{NUMBERS}
 use Rattle.lnet_store.specs.StoreValues.{with_input}
 use Rattle.lnet_hashed.specs.Strashed.{of_kind, least_free}
-use Rattle.lnet_hashed.specs.Views.{EachSlot, Fits}
-use Rattle.lnet_network.proofs.OfKind.{count-kind, input-kind, free-kind, strashed-entered, fits-kind, kind-fits}
+use Rattle.lnet_hashed.specs.Watches.{AreFitIn, AreToldIn}
+use Rattle.lnet_network.proofs.OfKind.{count-kind, input-kind, free-kind, strashed-entered, fit-kind, kind-fit, told-kind}
 use Rattle.lnet_network.proofs.network.Network.input.Goals.{in-Ok, in-Err}
 use Rattle.lnet_network.proofs.network.Network.input.Goals as goal
 
@@ -27,8 +28,8 @@ no-node r p q = cc
 
 pub add_input-requires-clause-fit : goal.add_input-requires-clause-fit
 add_input-requires-clause-fit g c =
-    kind-fits (λ b. (goal.View-dyn g (b.vtable, b.value)).spec_of b.value) (λ b. (goal.View-dyn g (b.vtable, b.value)).kept b.value) (λ b. (goal.View-dyn g (b.vtable, b.value)).room b.value) g.G.Gates.KIND c.self.inside.0.0.hashed.store.network c.self.inside.0.0.hashed.room c.self.inside.0.1.0.items
-    (subst (λ n. EachSlot (Fits (λ b. (goal.View-dyn g (b.vtable, b.value)).spec_of b.value) (λ b. (goal.View-dyn g (b.vtable, b.value)).kept b.value) (λ b. (goal.View-dyn g (b.vtable, b.value)).room b.value) n.core.network n.core.room) n.views.items) (sym c.self.view_is) c.requires.in_step)
+    kind-fit g.G.Gates.KIND c.self.inside.0.0.hashed.store.network c.self.inside.0.0.hashed.room
+    (subst (λ n. AreFitIn (λ b. goal.View-dyn g (b.vtable, b.value)) n.core.network n.core.room n.watch) (sym c.self.view_is) c.requires.in_step)
 
 pub invariant_of-self : goal.invariant_of-self
 invariant_of-self g c = (strashed-entered g.G.Gates.KIND g.G.Gates.form c.self.inside.0.0.hashed.store.network c.add_input.new.hashed.store.network _ c.add_input.result c.add_input.ensures.network c.add_input.ensures.refused c.self.invariant.0, c.add_input.ensures.room)
@@ -54,8 +55,10 @@ returns-clause-full g c = elim c.match-add_input.branch [
 pub returns-clause-memory : goal.returns-clause-memory
 returns-clause-memory g c e = elim c.match-add_input.branch [
   | in-Ok w ↦ no-both c.match-add_input.result w.result-is e
-  | in-Err w ↦ subst (λ n. n.core.room ≤ live_count n.core.network) c.self.view_is (subst (λ x. c.self.inside.0.0.hashed.room ≤ x) (sym (count-kind g.G.Gates.KIND c.self.inside.0.0.hashed.store.network)) (c.add_input.ensures.memory (w.in-Err.is ∙ ap Err (error-signal (sym w.result-is ∙ e)))))
+  | in-Err w ↦ subst (λ n. (n.core.room ≤ live_count n.core.network) × (live_count n.core.network < NUMBERS)) c.self.view_is (subst (λ x. (c.self.inside.0.0.hashed.room ≤ x) × (x < NUMBERS)) (sym (count-kind g.G.Gates.KIND c.self.inside.0.0.hashed.store.network)) (c.add_input.ensures.memory (w.in-Err.is ∙ ap Err (error-signal (sym w.result-is ∙ e)))))
 ]
 
 pub returns-clause-in_step : goal.returns-clause-in_step
-returns-clause-in_step g c = fits-kind (λ b. (goal.View-dyn g (b.vtable, b.value)).spec_of b.value) (λ b. (goal.View-dyn g (b.vtable, b.value)).kept b.value) (λ b. (goal.View-dyn g (b.vtable, b.value)).room b.value) g.G.Gates.KIND c.add_input.new.hashed.store.network c.add_input.new.hashed.room c.add_input.new.views.items c.add_input.ensures.fit
+returns-clause-in_step g c =
+    subst (λ n. AreToldIn (λ b. goal.View-dyn g (b.vtable, b.value)) (of_kind g.G.Gates.KIND c.add_input.new.hashed.store.network) c.add_input.new.hashed.room n.watch c.add_input.new.watch) c.self.view_is
+    (told-kind g.G.Gates.KIND c.add_input.new.hashed.store.network c.add_input.new.hashed.room c.add_input.ensures.told)

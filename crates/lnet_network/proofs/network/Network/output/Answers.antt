@@ -2,9 +2,10 @@ use Rattle.std.proofs.Common.{IsSome, Result, Ok, Err, OnOk, sym, ap, subst, ◌
 use Rattle.lnet_model.specs.Networks.{entry_at}
 use Rattle.lnet_store.specs.StoreValues.{with_new_output}
 use Rattle.lnet_hashed.specs.Strashed.{of_kind}
-use Rattle.lnet_hashed.specs.Views.{EachSlot, Fits}
-use Rattle.lnet_network.proofs.OfKind.{entry-kind, fits-kind, kind-fits}
-use Rattle.lnet_network.proofs.OtherOutputs.{either-outputs, strashed-outputs, room-outputs, fits-outputs, new-output-kind}
+use Rattle.lnet_hashed.specs.Watches.{AreFitIn, AreToldIn}
+use Rattle.lnet_hashed.proofs.KeptViews.{told_same}
+use Rattle.lnet_network.proofs.OfKind.{entry-kind, fit-kind, kind-fit, told-kind}
+use Rattle.lnet_network.proofs.OtherOutputs.{either-outputs, strashed-outputs, room-outputs, fit-outputs, new-output-kind}
 use Rattle.lnet_network.proofs.network.Network.output.Goals as goal
 
 then-ok : {A E : Type 0} (P Q : Type 0) (r : Result A E) → (P → Q) → OnOk r P → OnOk r Q
@@ -25,7 +26,9 @@ returns-clause-network g c = then-ok _ _ c.add_output.result (λ is. ap (of_kind
 pub returns-clause-in_step : goal.returns-clause-in_step
 returns-clause-in_step g c =
     let is = either-outputs c.self.inside.0.0.hashed.store.network c.add_output.new.self.network c.args.s _ c.add_output.result c.add_output.ensures.network c.add_output.ensures.refused in
-    fits-kind (λ b. (goal.View-dyn g (b.vtable, b.value)).spec_of b.value) (λ b. (goal.View-dyn g (b.vtable, b.value)).kept b.value) (λ b. (goal.View-dyn g (b.vtable, b.value)).room b.value) g.G.Gates.KIND c.add_output.new.self.network c.self.inside.0.0.hashed.room c.self.inside.0.1.0.items
-    (subst (λ M. EachSlot (Fits (λ b. (goal.View-dyn g (b.vtable, b.value)).spec_of b.value) (λ b. (goal.View-dyn g (b.vtable, b.value)).kept b.value) (λ b. (goal.View-dyn g (b.vtable, b.value)).room b.value) M c.self.inside.0.0.hashed.room) c.self.inside.0.1.0.items) (sym is) (fits-outputs (λ b. (goal.View-dyn g (b.vtable, b.value)).spec_of b.value) (λ b. (goal.View-dyn g (b.vtable, b.value)).kept b.value) (λ b. (goal.View-dyn g (b.vtable, b.value)).room b.value) c.self.inside.0.0.hashed.store.network c.add_output.new.self.network.outputs c.self.inside.0.0.hashed.room c.self.inside.0.1.0.items
-    (kind-fits (λ b. (goal.View-dyn g (b.vtable, b.value)).spec_of b.value) (λ b. (goal.View-dyn g (b.vtable, b.value)).kept b.value) (λ b. (goal.View-dyn g (b.vtable, b.value)).room b.value) g.G.Gates.KIND c.self.inside.0.0.hashed.store.network c.self.inside.0.0.hashed.room c.self.inside.0.1.0.items
-    (subst (λ n. EachSlot (Fits (λ b. (goal.View-dyn g (b.vtable, b.value)).spec_of b.value) (λ b. (goal.View-dyn g (b.vtable, b.value)).kept b.value) (λ b. (goal.View-dyn g (b.vtable, b.value)).room b.value) n.core.network n.core.room) n.views.items) (sym c.self.view_is) c.requires.in_step))))
+    let M = of_kind g.G.Gates.KIND c.add_output.new.self.network in
+    subst (λ n. AreToldIn (λ b. goal.View-dyn g (b.vtable, b.value)) M c.self.inside.0.0.hashed.room n.watch c.self.inside.0.1.0) c.self.view_is
+    (told_same (fit-kind g.G.Gates.KIND c.add_output.new.self.network c.self.inside.0.0.hashed.room
+    (subst (λ M. AreFitIn (λ b. goal.View-dyn g (b.vtable, b.value)) M c.self.inside.0.0.hashed.room c.self.inside.0.1.0) (sym is) (fit-outputs c.self.inside.0.0.hashed.store.network c.add_output.new.self.network.outputs c.self.inside.0.0.hashed.room
+    (kind-fit g.G.Gates.KIND c.self.inside.0.0.hashed.store.network c.self.inside.0.0.hashed.room
+    (subst (λ n. AreFitIn (λ b. goal.View-dyn g (b.vtable, b.value)) n.core.network n.core.room n.watch) (sym c.self.view_is) c.requires.in_step))))))

@@ -2,9 +2,10 @@ use Rattle.std.proofs.Common.{IsSome, sym, ap, subst, ◌∙◌}
 use Rattle.lnet_model.specs.Networks.{entry_at}
 use Rattle.lnet_store.specs.StoreValues.{with_output}
 use Rattle.lnet_hashed.specs.Strashed.{of_kind}
-use Rattle.lnet_hashed.specs.Views.{EachSlot, Fits}
-use Rattle.lnet_network.proofs.OfKind.{entry-kind, fits-kind, kind-fits}
-use Rattle.lnet_network.proofs.OtherOutputs.{set-outputs, strashed-outputs, room-outputs, fits-outputs, output-kind}
+use Rattle.lnet_hashed.specs.Watches.{AreFitIn, AreToldIn}
+use Rattle.lnet_hashed.proofs.KeptViews.{told_same}
+use Rattle.lnet_network.proofs.OfKind.{entry-kind, fit-kind, kind-fit, told-kind}
+use Rattle.lnet_network.proofs.OtherOutputs.{set-outputs, strashed-outputs, room-outputs, fit-outputs, output-kind}
 use Rattle.lnet_network.proofs.network.Network.set_output.Goals as goal
 
 pub set_output-requires-clause-live : goal.set_output-requires-clause-live
@@ -21,7 +22,9 @@ returns-clause-network g c = ap (of_kind g.G.Gates.KIND) c.set_output.ensures.ne
 pub returns-clause-in_step : goal.returns-clause-in_step
 returns-clause-in_step g c =
     let is = set-outputs c.self.inside.0.0.hashed.store.network c.set_output.new.self.network c.args.k c.args.s c.set_output.ensures.network in
-    fits-kind (λ b. (goal.View-dyn g (b.vtable, b.value)).spec_of b.value) (λ b. (goal.View-dyn g (b.vtable, b.value)).kept b.value) (λ b. (goal.View-dyn g (b.vtable, b.value)).room b.value) g.G.Gates.KIND c.set_output.new.self.network c.self.inside.0.0.hashed.room c.self.inside.0.1.0.items
-    (subst (λ M. EachSlot (Fits (λ b. (goal.View-dyn g (b.vtable, b.value)).spec_of b.value) (λ b. (goal.View-dyn g (b.vtable, b.value)).kept b.value) (λ b. (goal.View-dyn g (b.vtable, b.value)).room b.value) M c.self.inside.0.0.hashed.room) c.self.inside.0.1.0.items) (sym is) (fits-outputs (λ b. (goal.View-dyn g (b.vtable, b.value)).spec_of b.value) (λ b. (goal.View-dyn g (b.vtable, b.value)).kept b.value) (λ b. (goal.View-dyn g (b.vtable, b.value)).room b.value) c.self.inside.0.0.hashed.store.network c.set_output.new.self.network.outputs c.self.inside.0.0.hashed.room c.self.inside.0.1.0.items
-    (kind-fits (λ b. (goal.View-dyn g (b.vtable, b.value)).spec_of b.value) (λ b. (goal.View-dyn g (b.vtable, b.value)).kept b.value) (λ b. (goal.View-dyn g (b.vtable, b.value)).room b.value) g.G.Gates.KIND c.self.inside.0.0.hashed.store.network c.self.inside.0.0.hashed.room c.self.inside.0.1.0.items
-    (subst (λ n. EachSlot (Fits (λ b. (goal.View-dyn g (b.vtable, b.value)).spec_of b.value) (λ b. (goal.View-dyn g (b.vtable, b.value)).kept b.value) (λ b. (goal.View-dyn g (b.vtable, b.value)).room b.value) n.core.network n.core.room) n.views.items) (sym c.self.view_is) c.requires.in_step))))
+    let M = of_kind g.G.Gates.KIND c.set_output.new.self.network in
+    subst (λ n. AreToldIn (λ b. goal.View-dyn g (b.vtable, b.value)) M c.self.inside.0.0.hashed.room n.watch c.self.inside.0.1.0) c.self.view_is
+    (told_same (fit-kind g.G.Gates.KIND c.set_output.new.self.network c.self.inside.0.0.hashed.room
+    (subst (λ M. AreFitIn (λ b. goal.View-dyn g (b.vtable, b.value)) M c.self.inside.0.0.hashed.room c.self.inside.0.1.0) (sym is) (fit-outputs c.self.inside.0.0.hashed.store.network c.set_output.new.self.network.outputs c.self.inside.0.0.hashed.room
+    (kind-fit g.G.Gates.KIND c.self.inside.0.0.hashed.store.network c.self.inside.0.0.hashed.room
+    (subst (λ n. AreFitIn (λ b. goal.View-dyn g (b.vtable, b.value)) n.core.network n.core.room n.watch) (sym c.self.view_is) c.requires.in_step))))))

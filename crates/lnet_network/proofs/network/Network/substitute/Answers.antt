@@ -3,10 +3,10 @@ use Rattle.lnet_model.specs.Along.{Depends}
 use Rattle.lnet_model.specs.Changes.{IsGateAt}
 use Rattle.lnet_model.specs.Networks.{IsLive}
 use Rattle.lnet_hashed.specs.Strashed.{of_kind}
-use Rattle.lnet_hashed.specs.Views.{EachSlot, Fits}
+use Rattle.lnet_hashed.specs.Watches.{AreFitIn, AreToldIn}
 use Rattle.lnet_substitution.specs.Substitutions.{Substitutes}
 use Rattle.lnet_substitution.proofs.OtherKinds.{substitutes-of_kind}
-use Rattle.lnet_network.proofs.OfKind.{fits-kind, kind-fits}
+use Rattle.lnet_network.proofs.OfKind.{fit-kind, kind-fit, told-kind}
 use Rattle.lnet_network.proofs.SeenAs.{kind-gate, kind-live, reaches-kind}
 use Rattle.lnet_network.proofs.network.Network.substitute.Goals as goal
 
@@ -21,8 +21,8 @@ substitute-requires-clause-free g c d = c.requires.free (subst (λ n. Depends n.
 
 pub substitute-requires-clause-fit : goal.substitute-requires-clause-fit
 substitute-requires-clause-fit g c =
-    kind-fits (λ b. (goal.View-dyn g (b.vtable, b.value)).spec_of b.value) (λ b. (goal.View-dyn g (b.vtable, b.value)).kept b.value) (λ b. (goal.View-dyn g (b.vtable, b.value)).room b.value) g.G.Gates.KIND c.self.inside.0.0.hashed.store.network c.self.inside.0.0.hashed.room c.self.inside.0.1.0.items
-    (subst (λ n. EachSlot (Fits (λ b. (goal.View-dyn g (b.vtable, b.value)).spec_of b.value) (λ b. (goal.View-dyn g (b.vtable, b.value)).kept b.value) (λ b. (goal.View-dyn g (b.vtable, b.value)).room b.value) n.core.network n.core.room) n.views.items) (sym c.self.view_is) c.requires.in_step)
+    kind-fit g.G.Gates.KIND c.self.inside.0.0.hashed.store.network c.self.inside.0.0.hashed.room
+    (subst (λ n. AreFitIn (λ b. goal.View-dyn g (b.vtable, b.value)) n.core.network n.core.room n.watch) (sym c.self.view_is) c.requires.in_step)
 
 pub invariant_of-self : goal.invariant_of-self
 invariant_of-self g c = (c.substitute.ensures.strashed, c.substitute.ensures.room)
@@ -32,4 +32,6 @@ returns-clause-substitutes g c =
     subst (λ n. Substitutes g.G.Gates.KIND g.G.Gates.form n.core.network c.args.gate.0 c.args.signal (of_kind g.G.Gates.KIND c.substitute.new.hashed.store.network)) c.self.view_is (substitutes-of_kind g.G.Gates.KIND g.G.Gates.KIND g.G.Gates.form c.self.inside.0.0.hashed.store.network c.args.gate.0 c.args.signal c.substitute.new.hashed.store.network c.substitute.ensures.substitutes)
 
 pub returns-clause-in_step : goal.returns-clause-in_step
-returns-clause-in_step g c = fits-kind (λ b. (goal.View-dyn g (b.vtable, b.value)).spec_of b.value) (λ b. (goal.View-dyn g (b.vtable, b.value)).kept b.value) (λ b. (goal.View-dyn g (b.vtable, b.value)).room b.value) g.G.Gates.KIND c.substitute.new.hashed.store.network c.substitute.new.hashed.room c.substitute.new.views.items c.substitute.ensures.fit
+returns-clause-in_step g c =
+    subst (λ n. AreToldIn (λ b. goal.View-dyn g (b.vtable, b.value)) (of_kind g.G.Gates.KIND c.substitute.new.hashed.store.network) c.substitute.new.hashed.room n.watch c.substitute.new.watch) c.self.view_is
+    (told-kind g.G.Gates.KIND c.substitute.new.hashed.store.network c.substitute.new.hashed.room c.substitute.ensures.told)

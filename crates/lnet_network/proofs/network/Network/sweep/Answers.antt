@@ -1,14 +1,14 @@
 use Rattle.std.proofs.Common.{sym, subst}
 use Rattle.lnet_hashed.specs.Strashed.{of_kind}
 use Rattle.lnet_hashed.specs.Swept.{IsSwept}
-use Rattle.lnet_hashed.specs.Views.{EachSlot, Fits}
-use Rattle.lnet_network.proofs.OfKind.{swept-kind, swept-strashed, fits-kind, kind-fits}
+use Rattle.lnet_hashed.specs.Watches.{AreFitIn, AreToldIn}
+use Rattle.lnet_network.proofs.OfKind.{swept-kind, swept-strashed, fit-kind, kind-fit, told-kind}
 use Rattle.lnet_network.proofs.network.Network.sweep.Goals as goal
 
 pub sweep-requires-clause-fit : goal.sweep-requires-clause-fit
 sweep-requires-clause-fit g c =
-    kind-fits (λ b. (goal.View-dyn g (b.vtable, b.value)).spec_of b.value) (λ b. (goal.View-dyn g (b.vtable, b.value)).kept b.value) (λ b. (goal.View-dyn g (b.vtable, b.value)).room b.value) g.G.Gates.KIND c.self.inside.0.0.hashed.store.network c.self.inside.0.0.hashed.room c.self.inside.0.1.0.items
-    (subst (λ n. EachSlot (Fits (λ b. (goal.View-dyn g (b.vtable, b.value)).spec_of b.value) (λ b. (goal.View-dyn g (b.vtable, b.value)).kept b.value) (λ b. (goal.View-dyn g (b.vtable, b.value)).room b.value) n.core.network n.core.room) n.views.items) (sym c.self.view_is) c.requires.in_step)
+    kind-fit g.G.Gates.KIND c.self.inside.0.0.hashed.store.network c.self.inside.0.0.hashed.room
+    (subst (λ n. AreFitIn (λ b. goal.View-dyn g (b.vtable, b.value)) n.core.network n.core.room n.watch) (sym c.self.view_is) c.requires.in_step)
 
 pub invariant_of-self : goal.invariant_of-self
 invariant_of-self g c = (swept-strashed g.G.Gates.KIND g.G.Gates.form c.self.inside.0.0.hashed.store.network c.sweep.new.hashed.store.network c.sweep.ensures.network c.self.invariant.0, c.sweep.ensures.room)
@@ -18,4 +18,6 @@ returns-clause-network g c =
     subst (λ n. IsSwept n.core.network (of_kind g.G.Gates.KIND c.sweep.new.hashed.store.network)) c.self.view_is (swept-kind g.G.Gates.KIND c.self.inside.0.0.hashed.store.network c.sweep.new.hashed.store.network c.sweep.ensures.network)
 
 pub returns-clause-in_step : goal.returns-clause-in_step
-returns-clause-in_step g c = fits-kind (λ b. (goal.View-dyn g (b.vtable, b.value)).spec_of b.value) (λ b. (goal.View-dyn g (b.vtable, b.value)).kept b.value) (λ b. (goal.View-dyn g (b.vtable, b.value)).room b.value) g.G.Gates.KIND c.sweep.new.hashed.store.network c.sweep.new.hashed.room c.sweep.new.views.items c.sweep.ensures.fit
+returns-clause-in_step g c =
+    subst (λ n. AreToldIn (λ b. goal.View-dyn g (b.vtable, b.value)) (of_kind g.G.Gates.KIND c.sweep.new.hashed.store.network) c.sweep.new.hashed.room n.watch c.sweep.new.watch) c.self.view_is
+    (told-kind g.G.Gates.KIND c.sweep.new.hashed.store.network c.sweep.new.hashed.room c.sweep.ensures.told)

@@ -8,4 +8,4 @@ returns-in-Some-clause-merges g c =
 
 pub returns-in-Some-clause-good : goal.returns-in-Some-clause-good
 returns-in-Some-clause-good g c =
-    merged-good (λ b. goal.View-dyn g (b.vtable, b.value)) c.args.self.now _ c.in-Some.place c.merge_in-merged.new.net c.in-Some.is refl c.requires.good c.merge_in-merged.ensures.sound c.merge_in-merged.ensures.inputs c.merge_in-merged.ensures.outputs c.merge_in-merged.ensures.in_step c.merge_in-merged.ensures.kept
+    merged-good (λ b. goal.View-dyn g (b.vtable, b.value)) c.args.self.now _ c.in-Some.place c.merge_in-merged.new.net c.in-Some.is refl c.requires.good c.merge_in-merged.ensures.sound c.merge_in-merged.ensures.inputs c.merge_in-merged.ensures.outputs c.merge_in-merged.ensures.in_step.fit c.merge_in-merged.ensures.in_step.same

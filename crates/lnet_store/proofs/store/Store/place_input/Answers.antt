@@ -3,7 +3,8 @@ use Rattle.lnet_model.specs.Dags.{IsStored}
 use Rattle.lnet_store.specs.StoreValues.{StoreValue}
 use Rattle.lnet_store.specs.Fields.{network_of, AreReferences}
 use Rattle.lnet_store.proofs.StoreLemmas.{entry-of, live-of, inputs-of}
-use Rattle.lnet_store.proofs.ChangeLemmas.{network-input, stored-input, count-input, few-inputs}
+use Rattle.lnet_store.proofs.ChangeLemmas.{network-input, stored-input, count-input}
+use Rattle.lnet_store.proofs.FewInputs.{few-inputs}
 use Rattle.lnet_store.proofs.KeptLemmas.{kept-input}
 use Rattle.lnet_store.proofs.store.Store.place_input.Goals as goal
 use Rattle.lnet_store.proofs.StoreLemmas.{length-nodes}

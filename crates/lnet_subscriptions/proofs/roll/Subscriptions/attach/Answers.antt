@@ -32,7 +32,7 @@ returns-in-Ok-clause-follow g c =
     let place = ap (λ k. place_of k (map (λ b. (goal.View-dyn g (b.vtable, b.value)).kind_of b.value) xs)) (sym c.kind_of_spec.ensures) ∙ sym c.in-Some.ensures in
     let found = place-found (λ b. (goal.View-dyn g (b.vtable, b.value)).kind_of b.value) xs _ c.in-Some.at c.remove-view.result place in
     let of_kind = found.1 ∙ ap (λ b. (goal.View-dyn g (b.vtable, b.value)).kind_of b.value) (sym view-is) in
-    let e = c.in-Ok.ensures in
+    let e = c.in-Ok.ensures.seated in
     let items = ap (λ v. v.items) c.enter.ensures.shelf ∙ c.remove-view.ensures.items ∙ ap (λ v. remove v.items c.in-Some.at) c.reserve_live.ensures.shelf in
     let live = c.enter.ensures.live ∙ ap (λ ls. ls ++ (c.reserve_live.new.self.next, c.args.spec) ∷ []) c.reserve_live.ensures.live in
     let ids = c.enter.ensures.ids ∙ ap (λ is. is ++ c.in-Ok.id ∷ []) c.reserve_live.ensures.ids in
@@ -50,4 +50,4 @@ returns-in-Err-clause-same g c =
     let of_kind = found.1 ∙ ap (λ b. (goal.View-dyn g (b.vtable, b.value)).kind_of b.value) (sym view-is) in
     let items = c.put_back.ensures.shelf ∙ ap (λ ys. inserted ys c.in-Some.at c.in-Err.view) (c.remove-view.ensures.items ∙ ap (λ v. remove v.items c.in-Some.at) c.reserve_live.ensures.shelf) in
     same-roll (ap (λ v. v.items) c.put_back.ensures.live ∙ c.reserve_live.ensures.live) (c.put_back.ensures.next ∙ c.reserve_live.ensures.next)
-    (ap (map (λ b. (goal.View-dyn g (b.vtable, b.value)).kind_of b.value)) items ∙ map-back (λ b. (goal.View-dyn g (b.vtable, b.value)).kind_of b.value) xs c.in-Some.at c.in-Err.view c.remove-view.result found.0 (c.in-Err.ensures.back.1 ∙ ap (λ b. (goal.View-dyn g (b.vtable, b.value)).kind_of b.value) view-is))
+    (ap (map (λ b. (goal.View-dyn g (b.vtable, b.value)).kind_of b.value)) items ∙ map-back (λ b. (goal.View-dyn g (b.vtable, b.value)).kind_of b.value) xs c.in-Some.at c.in-Err.view c.remove-view.result found.0 (c.in-Err.ensures.back.kind ∙ ap (λ b. (goal.View-dyn g (b.vtable, b.value)).kind_of b.value) view-is))

@@ -5,7 +5,7 @@ use Rattle.lnet_model.specs.Answers.{kind_for}
 use Rattle.lnet_model.specs.declared.view_spec.ViewSpec.{ViewSpec}
 use Rattle.lnet_model.specs.declared.view_spec.ViewSpec.TheVariants.{Depth}
 use Rattle.lnet_subscriptions.proofs.Shelved.{all-more, map-more}
-use Rattle.lnet_subscriptions.proofs.Standing.{stand-len, stand-at, stand-gone, kind-taken, some-and}
+use Rattle.lnet_subscriptions.proofs.Standing.{stand-len, stand-at, stand-gone, kind-taken, some-and, gone-kind, gone-detached}
 use Rattle.lnet_subscriptions.proofs.roll.Subscriptions.shelve.Goals as goal
 
 no-some : {A : Type 0} (o : Option A) → o ≡ None → IsSome o → ⊥
@@ -27,7 +27,7 @@ returns-in-Some-clause-shelf g c spec number at =
     let p-at = slice_get-get_or c.args.self.now.live.items c.args.at p0 place in
     let here = stand-at (λ b. (goal.View-dyn g (b.vtable, b.value)).kind_of b.value) (λ b. (goal.View-dyn g (b.vtable, b.value)).spec_of b.value) _ c.args.self.now.live.items c.args.self.now.ids.items c.args.at (get_or c.args.self.now.live.items c.args.at p0) c.remove-id.result c.requires.follow.stand p-at id-at in
     let mine = stand-at (λ b. (goal.View-dyn g (b.vtable, b.value)).kind_of b.value) (λ b. (goal.View-dyn g (b.vtable, b.value)).spec_of b.value) _ c.args.self.now.live.items c.args.self.now.ids.items c.args.at (number, spec) c.remove-id.result c.requires.follow.stand at id-at in
-    let kind = kind-taken (λ b. (goal.View-dyn g (b.vtable, b.value)).kind_of b.value) (λ b. (goal.View-dyn g (b.vtable, b.value)).spec_of b.value) _ c.in-Some.view (kind_for spec) spec c.in-Some.ensures.kind mine in
+    let kind = kind-taken (λ b. (goal.View-dyn g (b.vtable, b.value)).kind_of b.value) (λ b. (goal.View-dyn g (b.vtable, b.value)).spec_of b.value) _ c.in-Some.view (kind_for spec) spec (gone-kind (λ b. (goal.View-dyn g (b.vtable, b.value)).kind_of b.value) (λ b. (goal.View-dyn g (b.vtable, b.value)).spec_of b.value) (λ b. (goal.View-dyn g (b.vtable, b.value)).kept b.value) (λ b. (goal.View-dyn g (b.vtable, b.value)).room b.value) _ c.in-Some.view c.in-Some.ensures.detached) mine in
     ap (map (λ b. (goal.View-dyn g (b.vtable, b.value)).kind_of b.value)) c.push_reserved.ensures.items ∙ map-more (λ b. (goal.View-dyn g (b.vtable, b.value)).kind_of b.value) c.args.self.now.shelf.items c.in-Some.view ∙ ap (λ k. map (λ b. (goal.View-dyn g (b.vtable, b.value)).kind_of b.value) c.args.self.now.shelf.items ++ k ∷ []) kind
 
 pub returns-in-Some-clause-follow : goal.returns-in-Some-clause-follow
@@ -40,7 +40,7 @@ returns-in-Some-clause-follow g c =
     let here = stand-at (λ b. (goal.View-dyn g (b.vtable, b.value)).kind_of b.value) (λ b. (goal.View-dyn g (b.vtable, b.value)).spec_of b.value) _ c.args.self.now.live.items c.args.self.now.ids.items c.args.at (get_or c.args.self.now.live.items c.args.at p0) c.remove-id.result c.requires.follow.stand p-at id-at in
     record {
       stand = stand-gone (λ b. (goal.View-dyn g (b.vtable, b.value)).kind_of b.value) (λ b. (goal.View-dyn g (b.vtable, b.value)).spec_of b.value) _ _ c.args.self.now.live.items c.remove.new.self.items c.args.self.now.ids.items c.remove-id.new.self.items c.args.at c.remove-id.result c.in-Some.ensures.others id-at c.remove.ensures.items c.remove-id.ensures.items c.requires.follow.stand;
-      detached = subst (AllByRecursion (λ b. (goal.View-dyn g (b.vtable, b.value)).spec_of b.value ≡ None)) (sym c.push_reserved.ensures.items) (all-more (λ b. (goal.View-dyn g (b.vtable, b.value)).spec_of b.value ≡ None) c.args.self.now.shelf.items c.in-Some.view c.in-Some.ensures.detached c.requires.follow.detached);
+      detached = subst (AllByRecursion (λ b. (goal.View-dyn g (b.vtable, b.value)).spec_of b.value ≡ None)) (sym c.push_reserved.ensures.items) (all-more (λ b. (goal.View-dyn g (b.vtable, b.value)).spec_of b.value ≡ None) c.args.self.now.shelf.items c.in-Some.view (gone-detached (λ b. (goal.View-dyn g (b.vtable, b.value)).kind_of b.value) (λ b. (goal.View-dyn g (b.vtable, b.value)).spec_of b.value) (λ b. (goal.View-dyn g (b.vtable, b.value)).kept b.value) (λ b. (goal.View-dyn g (b.vtable, b.value)).room b.value) _ c.in-Some.view c.in-Some.ensures.detached) c.requires.follow.detached);
     }
 
 pub returns-in_default-clause-shelf : goal.returns-in_default-clause-shelf

@@ -1,5 +1,5 @@
 -- The network of node 0 alone has no gate.
-use Rattle.std.proofs.Common.{◌≡◌, ℕ, ◌<◌, IsSome, Some, refl, sym, ap, subst, ◌∙◌, arith}
+use Rattle.std.proofs.Common.{◌≡◌, ℕ, ◌<◌, [], IsSome, Some, refl, sym, ap, subst, ◌∙◌, arith}
 use Rattle.lnet_gates.specs.declared.gate.Kind.{Kind}
 use Rattle.lnet_gates.specs.declared.normal.Normal.{Normal}
 use Rattle.lnet_gates.specs.Gates.{GateValue}
@@ -8,7 +8,7 @@ use Rattle.lnet_model.specs.Changes.{GateAt}
 use Rattle.lnet_store.specs.StoreValues.{first_network}
 use Rattle.lnet_store.proofs.StoreLemmas.{first-stored}
 use Rattle.lnet_hashed.proofs.First.{first-low}
-use Rattle.lnet_hashed.specs.Strashed.{IsStrashed}
+use Rattle.lnet_hashed.specs.Strashed.{IsStrashed, of_kind}
 
 no-gate : (n : ℕ) (g : GateValue) → GateAt first_network n g → ⊥
 no-gate n g e =
@@ -25,3 +25,11 @@ first-strashed kind form = record {
   and_phase = λ n g e. absurd (no-gate n g e);
   apart = λ m n g h e f k. absurd (no-gate m g e);
 }
+
+pub first-inputs : (kind : Kind) → (of_kind kind first_network).inputs ≡ []
+unfolding first_network
+first-inputs kind = refl
+
+pub first-outputs : (kind : Kind) → (of_kind kind first_network).outputs ≡ []
+unfolding first_network
+first-outputs kind = refl

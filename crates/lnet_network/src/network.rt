@@ -9,9 +9,10 @@ ghost use Rattle.lnet_model.specs.Dags.{NUMBERS};
 ghost use Rattle.lnet_hashed.specs.Laid.{made};
 ghost use Rattle.lnet_hashed.specs.Watches.{AreFitBy, AreToldBy, IsBare};
 ghost use Rattle.lnet_model.specs.Networks.{IsLive, live_count};
-ghost use Rattle.lnet_store.specs.StoreValues.{first_network, with_input};
-ghost use Rattle.lnet_hashed.specs.Strashed.{of_kind, least_free};
+ghost use Rattle.lnet_store.specs.StoreValues.{first_network};
+ghost use Rattle.lnet_hashed.specs.Strashed.{of_kind};
 ghost use Rattle.lnet_hashed.specs.Swept.{IsSwept};
+ghost use Rattle.lnet_network.specs.Uses.{IsEntered, IsMade};
 
 use lnet_gates::{Gates, Node, Op, Signal};
 use lnet_hashed::{Hashed, Watch, add_input, make, reserve, sweep};
@@ -79,9 +80,13 @@ pub struct Network<G: Gates> {
 
 impl<G: Gates> Network<G> {
     /// The network of node 0 alone, without views.
+    #[tactic(auto, using(lnet_hashed::proofs::KeptViews::bare_fit))]
     pub fn new(alloc: Global) -> Result<Network<G>, AllocError>
         ensures network { IfOk result (λ n. n.core.network ≡ of_kind G.KIND first_network) }
+        ensures inputs { IfOk result (λ n. n.core.network.inputs ≡ []) }
+        ensures outputs { IfOk result (λ n. n.core.network.outputs ≡ []) }
         ensures views { IfOk result (λ n. IsBare n.watch) }
+        ensures in_step { IfOk result (λ n. AreFitBy ⟦<dyn View as View>⟧ n.core.network n.core.room n.watch) }
     {
         let core = Core::new(alloc)?;
         Ok(Network {
@@ -125,6 +130,25 @@ impl<G: Gates> Network<G> {
         requires arity { Takes op (length operands.now) }
         requires live { AreLive self.old.core.network (nodes_read operands.now) }
         requires in_step { AreFitBy ⟦<dyn View as View>⟧ self.old.core.network self.old.core.room self.old.watch }
+        ensures made { IfOk result (λ s. IsMade G.KIND G.form self.old.core.network op operands.now self.new.core.network s) }
+        ensures refused { OnErr result (self.new.core.network ≡ self.old.core.network) }
+        ensures grows { self.old.core.room ≤ self.new.core.room }
+        ensures full { result ≡ Err AddError.Full → NUMBERS < live_count (made G.KIND G.form self.old.core.network op operands.now).network }
+        ensures memory { result ≡ Err AddError.NoMemory → self.old.core.room < min NUMBERS (live_count (made G.KIND G.form self.old.core.network op operands.now).network) }
+        ensures in_step { AreToldBy ⟦<dyn View as View>⟧ self.new.core.network self.new.core.room self.old.watch self.new.watch }
+    {
+        word_fits(&op);
+        let _before = self.live_count();
+        let answer = self.make(op, operands);
+        let _after = self.live_count();
+        answer
+    }
+
+    /// As `gate`, in the words of the definition alone.
+    fn make(&mut self, op: Op, operands: &[Signal]) -> Result<Signal, AddError>
+        requires arity { Takes op (length operands.now) }
+        requires live { AreLive self.old.core.network (nodes_read operands.now) }
+        requires in_step { AreFitBy ⟦<dyn View as View>⟧ self.old.core.network self.old.core.room self.old.watch }
         ensures made { IfOk result (λ s. made G.KIND G.form self.old.core.network op operands.now ≡ record { network = self.new.core.network; signal = s }) }
         ensures refused { OnErr result (self.new.core.network ≡ self.old.core.network) }
         ensures grows { self.old.core.room ≤ self.new.core.room }
@@ -140,8 +164,7 @@ impl<G: Gates> Network<G> {
     /// `spare` is above 0. Refused, the network is as it was. Constant time, amortized, while nodes are added only.
     pub fn input(&mut self) -> Result<Signal, AddError>
         requires in_step { AreFitBy ⟦<dyn View as View>⟧ self.old.core.network self.old.core.room self.old.watch }
-        ensures signal { IfOk result (λ s. s ≡ record { node = record { 0 = least_free self.old.core.network }; complement = false }) }
-        ensures network { OnOk result (self.new.core.network ≡ with_input self.old.core.network (least_free self.old.core.network)) }
+        ensures entered { IfOk result (λ s. IsEntered self.old.core.network self.new.core.network s) }
         ensures refused { OnErr result (self.new.core.network ≡ self.old.core.network) }
         ensures grows { self.old.core.room ≤ self.new.core.room }
         ensures full { (result ≡ Err AddError.Full) ↔ (live_count self.old.core.network ≡ NUMBERS) }

@@ -8,6 +8,7 @@ ghost use Rattle.lnet_model.specs.Dags.{NUMBERS};
 ghost use Rattle.lnet_model.specs.Networks.{IsLive, live_count};
 ghost use Rattle.lnet_hashed.specs.Laid.{made};
 ghost use Rattle.lnet_hashed.specs.Watches.{AreFitBy, AreToldBy};
+ghost use Rattle.lnet_network.specs.Uses.{IsMade};
 
 use crate::network::Network;
 use lnet_gates::{Gates, Op, Signal};
@@ -19,7 +20,7 @@ impl<G: Gates> Network<G> {
         requires live_a { IsLive self.old.core.network a.node.0 }
         requires live_b { IsLive self.old.core.network b.node.0 }
         requires in_step { AreFitBy ⟦<dyn View as View>⟧ self.old.core.network self.old.core.room self.old.watch }
-        ensures made { IfOk result (λ x. made G.KIND G.form self.old.core.network And (a ∷ b ∷ []) ≡ record { network = self.new.core.network; signal = x }) }
+        ensures made { IfOk result (λ x. IsMade G.KIND G.form self.old.core.network And (a ∷ b ∷ []) self.new.core.network x) }
         ensures refused { OnErr result (self.new.core.network ≡ self.old.core.network) }
         ensures grows { self.old.core.room ≤ self.new.core.room }
         ensures full { result ≡ Err AddError.Full → NUMBERS < live_count (made G.KIND G.form self.old.core.network And (a ∷ b ∷ [])).network }
@@ -34,7 +35,7 @@ impl<G: Gates> Network<G> {
         requires live_a { IsLive self.old.core.network a.node.0 }
         requires live_b { IsLive self.old.core.network b.node.0 }
         requires in_step { AreFitBy ⟦<dyn View as View>⟧ self.old.core.network self.old.core.room self.old.watch }
-        ensures made { IfOk result (λ x. made G.KIND G.form self.old.core.network Xor (a ∷ b ∷ []) ≡ record { network = self.new.core.network; signal = x }) }
+        ensures made { IfOk result (λ x. IsMade G.KIND G.form self.old.core.network Xor (a ∷ b ∷ []) self.new.core.network x) }
         ensures refused { OnErr result (self.new.core.network ≡ self.old.core.network) }
         ensures grows { self.old.core.room ≤ self.new.core.room }
         ensures full { result ≡ Err AddError.Full → NUMBERS < live_count (made G.KIND G.form self.old.core.network Xor (a ∷ b ∷ [])).network }
@@ -50,7 +51,7 @@ impl<G: Gates> Network<G> {
         requires live_b { IsLive self.old.core.network b.node.0 }
         requires live_c { IsLive self.old.core.network c.node.0 }
         requires in_step { AreFitBy ⟦<dyn View as View>⟧ self.old.core.network self.old.core.room self.old.watch }
-        ensures made { IfOk result (λ x. made G.KIND G.form self.old.core.network Maj (a ∷ b ∷ c ∷ []) ≡ record { network = self.new.core.network; signal = x }) }
+        ensures made { IfOk result (λ x. IsMade G.KIND G.form self.old.core.network Maj (a ∷ b ∷ c ∷ []) self.new.core.network x) }
         ensures refused { OnErr result (self.new.core.network ≡ self.old.core.network) }
         ensures grows { self.old.core.room ≤ self.new.core.room }
         ensures full { result ≡ Err AddError.Full → NUMBERS < live_count (made G.KIND G.form self.old.core.network Maj (a ∷ b ∷ c ∷ [])).network }
@@ -66,7 +67,7 @@ impl<G: Gates> Network<G> {
         requires arity { length operands.now ≤ 6 }
         requires live { AreLive self.old.core.network (nodes_read operands.now) }
         requires in_step { AreFitBy ⟦<dyn View as View>⟧ self.old.core.network self.old.core.room self.old.watch }
-        ensures made { IfOk result (λ x. made G.KIND G.form self.old.core.network (Lut table) operands.now ≡ record { network = self.new.core.network; signal = x }) }
+        ensures made { IfOk result (λ x. IsMade G.KIND G.form self.old.core.network (Lut table) operands.now self.new.core.network x) }
         ensures refused { OnErr result (self.new.core.network ≡ self.old.core.network) }
         ensures grows { self.old.core.room ≤ self.new.core.room }
         ensures full { result ≡ Err AddError.Full → NUMBERS < live_count (made G.KIND G.form self.old.core.network (Lut table) operands.now).network }

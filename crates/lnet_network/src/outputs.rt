@@ -1,10 +1,10 @@
 //! The outputs of a network. They are no event: no view keeps anything of them.
 
-ghost use Rattle.std.specs.Prelude.{◌≡◌, ◌<◌, IfOk, OnOk, OnErr, length};
+ghost use Rattle.std.specs.Prelude.{◌≡◌, ◌<◌, IfOk, OnErr, length};
 ghost use Rattle.lnet_model.specs.Networks.{IsLive};
 ghost use Rattle.lnet_model.specs.Dags.{OUTPUTS};
-ghost use Rattle.lnet_store.specs.StoreValues.{with_new_output, with_output};
 ghost use Rattle.lnet_hashed.specs.Watches.{AreFitBy, AreToldBy};
+ghost use Rattle.lnet_network.specs.Uses.{HasNewOutput, HasOutput};
 
 use crate::network::Network;
 use lnet_gates::{Gates, Signal};
@@ -18,8 +18,7 @@ impl<G: Gates> Network<G> {
         requires live { IsLive self.old.core.network s.node.0 }
         requires few { length self.old.core.network.outputs < OUTPUTS }
         requires in_step { AreFitBy ⟦<dyn View as View>⟧ self.old.core.network self.old.core.room self.old.watch }
-        ensures place { IfOk result (λ k. k ≡ length self.old.core.network.outputs) }
-        ensures network { OnOk result (self.new.core.network ≡ with_new_output self.old.core.network s) }
+        ensures added { IfOk result (λ k. HasNewOutput self.old.core.network self.new.core.network s k) }
         ensures refused { OnErr result (self.new.core.network ≡ self.old.core.network) }
         ensures room { self.new.core.room ≡ self.old.core.room }
         ensures watch { self.new.watch ≡ self.old.watch }
@@ -34,7 +33,7 @@ impl<G: Gates> Network<G> {
         requires place { k < length self.old.core.network.outputs }
         requires live { IsLive self.old.core.network s.node.0 }
         requires in_step { AreFitBy ⟦<dyn View as View>⟧ self.old.core.network self.old.core.room self.old.watch }
-        ensures network { self.new.core.network ≡ with_output self.old.core.network k s }
+        ensures set { HasOutput self.old.core.network self.new.core.network s k }
         ensures room { self.new.core.room ≡ self.old.core.room }
         ensures watch { self.new.watch ≡ self.old.watch }
         ensures in_step { AreToldBy ⟦<dyn View as View>⟧ self.new.core.network self.new.core.room self.old.watch self.new.watch }

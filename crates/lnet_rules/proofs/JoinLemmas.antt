@@ -9,36 +9,32 @@ use Rattle.lnet_gates.specs.declared.gate.Op.TheVariants as op
 use Rattle.lnet_gates.specs.Operands.{complemented}
 use Rattle.lnet_gates.specs.declared.normal.Normal.{Normal}
 use Rattle.lnet_gates.specs.Gates.{GateValue}
-use Rattle.lnet_gates.specs.Natives.{IsNativeGate, FitsWord}
-use Rattle.lnet_gates.specs.NormalLaws.{NormalLaws}
-use Rattle.lnet_gates.specs.Plans.{Takes}
 use Rattle.lnet_model.specs.Networks.{NetworkValue, IsLive, live_count}
 use Rattle.lnet_model.specs.Along.{nodes_read}
 use Rattle.lnet_model.specs.Changes.{AreLive}
-use Rattle.lnet_model.specs.Dags.{IsStored, NUMBERS}
+use Rattle.lnet_model.specs.Dags.{NUMBERS}
 use Rattle.lnet_hashed.specs.Strashed.{Placed}
 use Rattle.lnet_hashed.specs.Laid.{made}
-use Rattle.lnet_hashed.proofs.Extensions.{extends-live}
-use Rattle.lnet_hashed.proofs.LaidValues.{made-stands, made-grows}
+use Rattle.lnet_hashed.proofs.LaidValues.{made-grows}
 use Rattle.lnet_rules.specs.declared.joining.Join.{Join}
 use Rattle.lnet_rules.specs.declared.joining.Join.TheVariants.{And, Or, Xor}
 use Rattle.lnet_rules.specs.Joins.{by_join, joined_from}
+use Rattle.lnet_network.specs.Uses.{IsMade}
 use Rattle.lnet_rules.specs.Live.{KeepsLive}
 
-module _ (kind : Kind) (form : GateValue → Normal) (laws : NormalLaws (IsNativeGate kind) form) (N : NetworkValue) (f : Op) (operands : List Signal) (takes : Takes f (length operands)) (fits : FitsWord f) (stored : IsStored N) (live : AreLive N (nodes_read operands)) where
-  -- the signal of an operation is live, and so is what was
-  pub made-live : (M : NetworkValue) (s : Signal) → live_count M ≤ NUMBERS → made kind form N f operands ≡ record { network = M; signal = s } → IsLive M s.node.0 × KeepsLive N M
-  made-live M s few is =
-      let stands = made-stands kind form laws N f operands takes fits stored live (subst (λ (p : Placed). live_count p.network ≤ NUMBERS) (sym is) few) in
-      (subst (λ (p : Placed). IsLive p.network p.signal.node.0) is stands.live, λ n here. subst (λ (p : Placed). IsLive p.network n) is (extends-live N (made kind form N f operands).network stands.extends n here))
+-- what the answer of an operation says, word by word
+module _ (kind : Kind) (form : GateValue → Normal) (N : NetworkValue) (f : Op) (operands : List Signal) {E : Type 0} (M : NetworkValue) where
+  pub answer-made : (r : Result Signal E) → IfOk r (IsMade kind form N f operands M) → IfOk r (λ s. made kind form N f operands ≡ record { network = M; signal = s })
+  answer-made (Ok s) is = is.is
+  answer-made (Err e) is = tt
 
-  pub answer-live : {E : Type 0} (M : NetworkValue) (r : Result Signal E) → live_count M ≤ NUMBERS → IfOk r (λ s. made kind form N f operands ≡ record { network = M; signal = s }) → IfOk r (λ s. IsLive M s.node.0)
-  answer-live M (Ok s) few is = (made-live M s few is).0
-  answer-live M (Err e) few is = tt
+  pub answer-live : (r : Result Signal E) → IfOk r (IsMade kind form N f operands M) → IfOk r (λ s. IsLive M s.node.0)
+  answer-live (Ok s) is = is.live
+  answer-live (Err e) is = tt
 
-  pub answer-keeps : {E : Type 0} (M : NetworkValue) (r : Result Signal E) → live_count M ≤ NUMBERS → IfOk r (λ s. made kind form N f operands ≡ record { network = M; signal = s }) → OnOk r (KeepsLive N M)
-  answer-keeps M (Ok s) few is = (made-live M s few is).1
-  answer-keeps M (Err e) few is = tt
+  pub answer-keeps : (r : Result Signal E) → IfOk r (IsMade kind form N f operands M) → OnOk r (KeepsLive N M)
+  answer-keeps (Ok s) is = is.stays
+  answer-keeps (Err e) is = tt
 
 -- ---- two signals
 

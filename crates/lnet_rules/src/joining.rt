@@ -2,7 +2,6 @@
 #![tactic(auto, using(lnet_hashed::proofs::KeptViews::bare_fit, lnet_hashed::proofs::KeptViews::bare_told))]
 
 ghost use Rattle.std.specs.Prelude.{◌≡◌, ◌<◌, [], ◌∷◌, IfOk, OnOk, Err, length};
-ghost use Rattle.lnet_gates.specs.Natives.{FitsWord};
 ghost use Rattle.lnet_gates.specs.Plans.{Takes};
 ghost use Rattle.lnet_model.specs.Along.{nodes_read};
 ghost use Rattle.lnet_model.specs.Changes.{AreLive};
@@ -28,18 +27,6 @@ pub enum Join {
     Xor,
 }
 
-/// A table of a look-up table's gate is a word: said for the proofs of the calls that make gates.
-fn word_fits(op: &Op)
-    ensures { FitsWord op.now }
-{
-    match op {
-        Op::Lut(table) => {
-            let _word = *table;
-        }
-        _ => {}
-    }
-}
-
 /// The signal of an operation on operands, as many as it takes.
 pub(crate) fn make<G: Gates>(
     net: &mut Network<G>,
@@ -55,11 +42,7 @@ pub(crate) fn make<G: Gates>(
     ensures full { result ≡ Err AddError.Full → NUMBERS < live_count (made G.KIND G.form net.old.core.network op operands.now).network }
     ensures none { IsBare net.new.watch }
 {
-    word_fits(&op);
-    let _before = net.live_count();
-    let answer = net.gate(op, operands);
-    let _after = net.live_count();
-    answer
+    net.gate(op, operands)
 }
 
 /// The signal of two signals joined. `a` or `b` is the complement of the and of their complements.

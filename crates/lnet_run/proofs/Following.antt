@@ -1,12 +1,17 @@
 -- What follows from a command's effect for the origin of a network, and which commands make calls of their own.
-use Rattle.std.proofs.Common.{◌≡◌, Option, Some, None, IsSome, refl, sym, subst, ◌∙◌, arith}
+use Rattle.std.proofs.Common.{◌≡◌, ℕ, Option, Some, None, IsSome, refl, sym, subst, ◌∙◌, arith}
 use Rattle.lnet_edge.specs.Outside.{Contents}
 use Rattle.lnet_edge.specs.Circuits.{CircuitValue}
-use Rattle.lnet_model.specs.Along.{Acyclic}
+use Rattle.lnet_gates.specs.declared.gate.Kind.{Kind}
+use Rattle.lnet_gates.specs.declared.signal.Signal.{Signal}
+use Rattle.lnet_model.specs.Networks.{NetworkValue}
+use Rattle.lnet_any.specs.Forms.{form_of}
 use Rattle.lnet_script.specs.declared.command.Command.{Command}
 use Rattle.lnet_replies.specs.declared.reply.Reply.{Reply}
+use Rattle.lnet_session.specs.Made.{IsSound}
+use Rattle.lnet_session.specs.Merging.{GivesWay}
 use Rattle.lnet_session.specs.States.{Held, State}
-use Rattle.lnet_session.specs.Effects.{AgreeOutputs, Effect}
+use Rattle.lnet_session.specs.Effects.{AgreeOutputs, Effect, PutsInPlace}
 use Rattle.lnet_session.specs.Steps.{MakesCall, own_call}
 use Rattle.lnet_run.specs.Runs.{FollowsOrigin, latest}
 
@@ -18,13 +23,34 @@ with-latest h source origin none f = subst (λ (s : Option CircuitValue). Follow
 follows-same : (h k : Option Held) (source origin : Option CircuitValue) → FollowsOrigin h origin → source ≡ None → k ≡ h → FollowsOrigin k (latest source origin)
 follows-same h k source origin f none same = with-latest k source origin none (subst (λ (t : Option Held). FollowsOrigin t origin) (sym same) f)
 
--- a network without cycles that computes what the one before it computed
-follows-agree : (old : Option Held) (k : Held) (origin : Option CircuitValue) → FollowsOrigin old origin → AgreeOutputs old (Some k) → Acyclic k.network → FollowsOrigin (Some k) origin
-follows-agree None k origin f agree acyclic = absurd agree
-follows-agree (Some h) k origin f agree acyclic = (f.0, f.1, acyclic, λ a. agree a ∙ f.3 a)
+-- a network that is put in place follows its circuit
+follows-puts : (kind : Kind) (c : CircuitValue) (k : Kind) (inputs outputs gates : ℕ) (old new : State) → PutsInPlace kind c k inputs outputs gates old new → FollowsOrigin new.held (Some c)
+follows-puts kind c k inputs outputs gates old new puts =
+    subst (λ (h : Option Held). FollowsOrigin h (Some c)) (sym puts.held) (c, refl, subst (λ k. IsSound (form_of k) puts.network) (sym puts.made.kind_is) puts.made.sound, puts.made.values)
 
-pub effect-follows : (c : Command) (old new : State) (before after : Option Contents) (answer : Reply) (source origin : Option CircuitValue) → FollowsOrigin old.held origin → Effect old before c answer source new after → FollowsOrigin new.held (latest source origin)
-effect-follows c old new before after answer source origin f e = grind (arith, follows-same, with-latest, follows-agree)
+-- a sound network that computes what the one before it computed
+follows-agree :
+    (old : Option Held) (k : Held) (origin : Option CircuitValue) → FollowsOrigin old origin → AgreeOutputs old (Some k) → IsSound (form_of k.network.kind) k.network →
+    FollowsOrigin (Some k) origin
+follows-agree None k origin f agree sound = absurd agree
+follows-agree (Some h) k origin f agree sound = (f.0, f.1, sound, λ a. agree a ∙ f.3 a)
+
+follows-converts :
+    (kind : Kind) (c : CircuitValue) (k : Kind) (inputs outputs gates : ℕ) (old new : State) (origin : Option CircuitValue) → FollowsOrigin old.held origin →
+    PutsInPlace kind c k inputs outputs gates old new → AgreeOutputs old.held new.held → FollowsOrigin new.held origin
+follows-converts kind c k inputs outputs gates old new origin f puts agree =
+    subst (λ (h : Option Held). FollowsOrigin h origin) (sym puts.held)
+    (follows-agree old.held _ origin f (subst (AgreeOutputs old.held) puts.held agree) (subst (λ k. IsSound (form_of k) puts.network) (sym puts.made.kind_is) puts.made.sound))
+
+follows-gives :
+    (h : Held) (origin : Option CircuitValue) (n : ℕ) (s : Signal) (Q : NetworkValue) (new : Option Held) → FollowsOrigin (Some h) origin → GivesWay h.network n s Q →
+    new ≡ Some (record { network = Q; names = h.names }) → FollowsOrigin new origin
+follows-gives h origin n s Q new f gives is = subst (λ (k : Option Held). FollowsOrigin k origin) (sym is) (f.0, f.1, gives.sound f.2, λ a. gives.outputs a ∙ f.3 a)
+
+pub effect-follows :
+    (c : Command) (old new : State) (before after : Option Contents) (answer : Reply) (source origin : Option CircuitValue) → FollowsOrigin old.held origin →
+    Effect old before c answer source new after → FollowsOrigin new.held (latest source origin)
+effect-follows c old new before after answer source origin f e = grind (arith, follows-same, with-latest, follows-puts, follows-converts, follows-gives)
 
 -- ---- the own call of a command
 

@@ -3,7 +3,7 @@ use Rattle.std.specs.Prelude.{◌≡◌, ℕ, ◌+◌, ◌≤◌, Bool, true, fa
 use Rattle.lnet_edge.specs.Outside.{Contents}
 use Rattle.lnet_edge.specs.Circuits.{CircuitValue}
 use Rattle.lnet_edge.specs.Values.{circuit_outputs}
-use Rattle.lnet_model.specs.Along.{Acyclic}
+use Rattle.lnet_any.specs.Forms.{form_of}
 use Rattle.lnet_model.specs.Values.{network_outputs}
 use Rattle.lnet_replies.specs.declared.reply.Reply.{Reply}
 use Rattle.lnet_replies.specs.Texts.{is_unmet, reply_text}
@@ -12,6 +12,7 @@ use Rattle.lnet_session.specs.declared.stepping.StepEnd.{StepEnd}
 use Rattle.lnet_session.specs.declared.stepping.StepEnd.TheVariants as ends
 use Rattle.lnet_run.specs.declared.running.RunEnd.{RunEnd}
 use Rattle.lnet_run.specs.declared.running.RunEnd.TheVariants as run
+use Rattle.lnet_session.specs.Made.{IsSound}
 use Rattle.lnet_session.specs.States.{Held, State}
 use Rattle.lnet_session.specs.Effects.{Effect}
 use Rattle.lnet_session.specs.Steps.{World, Steps, Grows}
@@ -85,7 +86,7 @@ RunsTo commands run.NoMemory start old new origin = Stopped commands ends.NoMemo
 
 -- ---- what a run keeps
 
--- the network, where one is in place, has no cycle, and each output computes what it computes in the origin
+-- the network, where one is in place, is sound, and each output computes what it computes in the origin
 abbrev pub FollowsOrigin : Option Held → Option CircuitValue → Type 0
 FollowsOrigin None origin = Unit {0}
-FollowsOrigin (Some h) origin = (c : CircuitValue) × (origin ≡ Some c) × Acyclic h.network × ((a : ℕ → Bool) → network_outputs h.network a ≡ circuit_outputs c a)
+FollowsOrigin (Some h) origin = (c : CircuitValue) × (origin ≡ Some c) × IsSound (form_of h.network.kind) h.network × ((a : ℕ → Bool) → network_outputs h.network a ≡ circuit_outputs c a)

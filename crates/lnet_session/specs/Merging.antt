@@ -1,13 +1,14 @@
 -- Letting a signal take a gate's place where both compute one function, and what stands in the way.
 use Rattle.std.specs.Prelude.{◌≡◌, ℕ, ◌≤◌, ◌<◌, Bool, true, false, ◌==◌, length, Option, None, Some, if◌then◌else◌}
 use Rattle.lnet_gates.specs.declared.signal.Signal.{Signal}
-use Rattle.lnet_model.specs.Along.{Acyclic, Depends}
+use Rattle.lnet_model.specs.Along.{Depends}
 use Rattle.lnet_model.specs.Changes.{IsGateAt}
 use Rattle.lnet_model.specs.Networks.{NetworkValue, IsLive, gate_count}
 use Rattle.lnet_model.specs.Values.{network_outputs}
 use Rattle.lnet_any.specs.Forms.{form_of}
 use Rattle.lnet_simulate.specs.Assignments.{AgreeUnder, DifferFirst}
 use Rattle.lnet_substitution.specs.Substitutions.{Substitutes}
+use Rattle.lnet_session.specs.Made.{IsSound}
 use Rattle.lnet_replies.specs.declared.reply.Unmet.{Unmet}
 use Rattle.lnet_replies.specs.declared.reply.Unmet.TheVariants as unmet
 use Rattle.lnet_replies.specs.declared.reply.Reply.{Reply}
@@ -37,10 +38,10 @@ StandsInTheWay N n s (Some unmet.Cycle) = AreThere N n s × (length N.inputs ≤
 StandsInTheWay N n s (Some (unmet.Unequal inputs assignment)) = AreApart N n s × (inputs ≡ length N.inputs) × DifferFirst N n s assignment
 StandsInTheWay N n s (Some cause) = ⊥
 
--- Q is what the substitution of s for gate n leaves of N, and it computes what N computes
+-- Q is what the substitution of s for gate n leaves of N, it computes what N computes, and it is sound where N is
 pub record GivesWay (N : NetworkValue) (n : ℕ) (s : Signal) (Q : NetworkValue) : Type 0 where
   pub leaves : Substitutes N.kind (form_of N.kind) N n s Q
-  pub acyclic : Acyclic Q
+  pub sound : IsSound (form_of N.kind) N → IsSound (form_of Q.kind) Q
   pub outputs : (a : ℕ → Bool) → network_outputs Q a ≡ network_outputs N a
 
 -- merging, by its answer

@@ -24,4 +24,6 @@ mod rendering;
 #[cfg(test)]
 mod replies;
 #[cfg(test)]
+mod uses;
+#[cfg(test)]
 mod writing;

@@ -1,5 +1,5 @@
 use Rattle.lnet_hashed.specs.Watches.{IsBare}
-use Rattle.std.proofs.Common.{◌≡◌, ◌<◌, ℕ, [], drop, get_or}
+use Rattle.std.proofs.Common.{◌≡◌, ◌<◌, ℕ, drop, get_or}
 use Rattle.lnet_edge.specs.CircuitLists.{equation_views}
 use Rattle.lnet_build.specs.Built.{Building, with_places}
 use Rattle.lnet_build.specs.Signals.{AreSignalsLive, FitsPlace, Stand}

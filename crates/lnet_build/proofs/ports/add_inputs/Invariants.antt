@@ -1,5 +1,5 @@
 use Rattle.lnet_hashed.specs.Watches.{IsBare}
-use Rattle.std.proofs.Common.{◌≡◌, ◌+◌, ◌-◌, ◌≤◌, [], length, drop}
+use Rattle.std.proofs.Common.{◌≡◌, ◌+◌, ◌-◌, ◌≤◌, length, drop}
 use Rattle.lnet_model.specs.Dags.{NUMBERS}
 use Rattle.lnet_model.specs.Networks.{live_count}
 use Rattle.lnet_build.specs.Built.{Building, with_ports}

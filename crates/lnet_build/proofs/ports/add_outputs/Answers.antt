@@ -6,7 +6,7 @@ use Rattle.lnet_build.proofs.ports.add_outputs.Goals as goal
 
 pub loop-port-preserved : goal.loop-port-preserved
 loop-port-preserved g c =
-    let is = c.in_ok-output.ensures.network ∙ ap (with_new_output c.loop-port.net.core.network) c.signal_of.ensures in
+    let is = c.in_ok-output.ensures.added.network ∙ ap (with_new_output c.loop-port.net.core.network) c.signal_of.ensures in
     record {
       few = (let n = output-count c.loop-port.net.core.network c.output.new.self.core.network _ is in let old = c.loop-port.invariant.few in let low = c.loop-port-test.true in omega arith);
       live = output-next c.loop-port.net.core.network c.output.new.self.core.network c.args.signals.now _ is c.loop-port.invariant.live;

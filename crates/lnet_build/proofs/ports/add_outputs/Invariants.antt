@@ -1,5 +1,5 @@
 use Rattle.lnet_hashed.specs.Watches.{IsBare}
-use Rattle.std.proofs.Common.{◌≡◌, ◌+◌, ◌-◌, ◌≤◌, [], length, drop, map}
+use Rattle.std.proofs.Common.{◌≡◌, ◌+◌, ◌-◌, ◌≤◌, length, drop, map}
 use Rattle.lnet_edge.specs.declared.circuit.OutputPort.{OutputPort}
 use Rattle.lnet_model.specs.Dags.{OUTPUTS}
 use Rattle.lnet_build.specs.Built.{with_outputs}

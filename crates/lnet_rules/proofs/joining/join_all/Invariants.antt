@@ -1,5 +1,5 @@
 use Rattle.lnet_hashed.specs.Watches.{IsBare}
-use Rattle.std.proofs.Common.{◌≡◌, [], drop}
+use Rattle.std.proofs.Common.{◌≡◌, drop}
 use Rattle.lnet_model.specs.Networks.{IsLive}
 use Rattle.lnet_model.specs.Along.{nodes_read}
 use Rattle.lnet_model.specs.Changes.{AreLive}

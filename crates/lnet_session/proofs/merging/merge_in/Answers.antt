@@ -14,7 +14,7 @@ returns-in-Ok-None-clause-merges g c =
     let stands = subst (λ m. StandsInTheWay (network_in m) c.args.n.0 c.args.s None) (sym c.obstacle.ensures.same) told in
     let gives : GivesWay (network_in net) c.args.n.0 c.args.s Q = record {
       leaves = c.substitute.ensures.substitutes;
-      acyclic = c.substitute.ensures.stored.dag.acyclic;
+      sound = λ before. record { stored = c.substitute.ensures.stored; strashed = c.substitute.ensures.strashed; tidy = c.substitute.ensures.tidy before.tidy };
       outputs = c.substitute.ensures.outputs (λ a. sym (stands.1 a));
     } in
     subst (λ m. MergesIn (network_in m) c.args.n.0 c.args.s (reply.Merged c.args.n.0 c.gate_count.result) Q) c.obstacle.ensures.same (stands, gives, refl, c.gate_count.ensures)

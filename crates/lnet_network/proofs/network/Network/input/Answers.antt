@@ -1,4 +1,4 @@
-use Rattle.std.proofs.Common.{◌≡◌, ◌<◌, ◌≤◌, ℕ, false, IfOk, OnOk, Result, Ok, Err, sym, ap, subst, ◌∙◌}
+use Rattle.std.proofs.Common.{◌≡◌, ◌<◌, ◌≤◌, ℕ, false, IfOk, Result, Ok, Err, sym, ap, subst, ◌∙◌}
 use Rattle.lnet_gates.specs.declared.signal.Signal.{Signal}
 use Rattle.lnet_gates.specs.declared.signal.Node.{Node}
 use Rattle.lnet_store.specs.declared.store.AddError.{AddError}
@@ -7,7 +7,9 @@ use Rattle.lnet_model.specs.Dags.{NUMBERS}
 use Rattle.lnet_store.specs.StoreValues.{with_input}
 use Rattle.lnet_hashed.specs.Strashed.{of_kind, least_free}
 use Rattle.lnet_hashed.specs.Watches.{AreFitIn, AreToldIn}
-use Rattle.lnet_network.proofs.OfKind.{count-kind, input-kind, free-kind, strashed-entered, fit-kind, kind-fit, told-kind}
+use Rattle.lnet_network.specs.Uses.{IsEntered}
+use Rattle.lnet_network.proofs.Uses.{is-entered}
+use Rattle.lnet_network.proofs.OfKind.{count-kind, input-kind, free-kind, strashed-entered, kind-fit, told-kind}
 use Rattle.lnet_network.proofs.network.Network.input.Goals.{in-Ok, in-Err}
 use Rattle.lnet_network.proofs.network.Network.input.Goals as goal
 
@@ -34,17 +36,19 @@ add_input-requires-clause-fit g c =
 pub invariant_of-self : goal.invariant_of-self
 invariant_of-self g c = (strashed-entered g.G.Gates.KIND g.G.Gates.form c.self.inside.0.0.hashed.store.network c.add_input.new.hashed.store.network _ c.add_input.result c.add_input.ensures.network c.add_input.ensures.refused c.self.invariant.0, c.add_input.ensures.room)
 
-pub returns-clause-signal : goal.returns-clause-signal
-returns-clause-signal g c = elim c.match-add_input.branch [
-  | in-Ok w ↦ subst (λ r. IfOk r (λ (s : Signal). s ≡ record { node = record { 0 = least_free c.args.self.now.core.network }; complement = false })) (sym w.result-is) (ap as-plain (w.in-Ok.ensures.node ∙ sym (free-kind g.G.Gates.KIND c.self.inside.0.0.hashed.store.network) ∙ ap (λ n. least_free n.core.network) c.self.view_is))
-  | in-Err w ↦ subst (λ r. IfOk r (λ (s : Signal). s ≡ record { node = record { 0 = least_free c.args.self.now.core.network }; complement = false })) (sym w.result-is) tt
-]
-
-pub returns-clause-network : goal.returns-clause-network
-returns-clause-network g c = elim c.match-add_input.branch [
-  | in-Ok w ↦ subst (λ r. OnOk r (of_kind g.G.Gates.KIND c.add_input.new.hashed.store.network ≡ with_input c.args.self.now.core.network (least_free c.args.self.now.core.network))) (sym w.result-is) (ap (of_kind g.G.Gates.KIND) w.in-Ok.ensures.network ∙ input-kind g.G.Gates.KIND c.self.inside.0.0.hashed.store.network w.in-Ok.node.0 ∙ ap (with_input (of_kind g.G.Gates.KIND c.self.inside.0.0.hashed.store.network)) (w.in-Ok.ensures.node ∙ sym (free-kind g.G.Gates.KIND c.self.inside.0.0.hashed.store.network)) ∙ ap (λ n. with_input n.core.network (least_free n.core.network)) c.self.view_is)
-  | in-Err w ↦ subst (λ r. OnOk r (of_kind g.G.Gates.KIND c.add_input.new.hashed.store.network ≡ with_input c.args.self.now.core.network (least_free c.args.self.now.core.network))) (sym w.result-is) tt
-]
+pub returns-clause-entered : goal.returns-clause-entered
+returns-clause-entered g c =
+    let N = c.args.self.now.core.network in
+    let M = of_kind g.G.Gates.KIND c.add_input.new.hashed.store.network in
+    let free = sym (free-kind g.G.Gates.KIND c.self.inside.0.0.hashed.store.network) in
+    elim c.match-add_input.branch [
+      | in-Ok w ↦ subst (λ r. IfOk r (λ (s : Signal). IsEntered N M s)) (sym w.result-is) (is-entered N M _
+          (ap as-plain (w.in-Ok.ensures.node ∙ free ∙ ap (λ n. least_free n.core.network) c.self.view_is))
+          (ap (of_kind g.G.Gates.KIND) w.in-Ok.ensures.network ∙ input-kind g.G.Gates.KIND c.self.inside.0.0.hashed.store.network w.in-Ok.node.0
+          ∙ ap (with_input (of_kind g.G.Gates.KIND c.self.inside.0.0.hashed.store.network)) (w.in-Ok.ensures.node ∙ free) ∙ ap (λ n. with_input n.core.network (least_free n.core.network))
+          c.self.view_is))
+      | in-Err w ↦ subst (λ r. IfOk r (λ (s : Signal). IsEntered N M s)) (sym w.result-is) tt
+    ]
 
 pub returns-clause-full : goal.returns-clause-full
 returns-clause-full g c = elim c.match-add_input.branch [
@@ -60,5 +64,6 @@ returns-clause-memory g c e = elim c.match-add_input.branch [
 
 pub returns-clause-in_step : goal.returns-clause-in_step
 returns-clause-in_step g c =
-    subst (λ n. AreToldIn (λ b. goal.View-dyn g (b.vtable, b.value)) (of_kind g.G.Gates.KIND c.add_input.new.hashed.store.network) c.add_input.new.hashed.room n.watch c.add_input.new.watch) c.self.view_is
+    subst (λ n. AreToldIn (λ b. goal.View-dyn g (b.vtable, b.value)) (of_kind g.G.Gates.KIND c.add_input.new.hashed.store.network) c.add_input.new.hashed.room n.watch c.add_input.new.watch)
+    c.self.view_is
     (told-kind g.G.Gates.KIND c.add_input.new.hashed.store.network c.add_input.new.hashed.room c.add_input.ensures.told)

@@ -3,7 +3,7 @@ use Rattle.lnet_hashed.specs.Watches.{AreFitIn, AreToldIn}
 use Rattle.lnet_model.specs.Dags.{NUMBERS}
 use Rattle.lnet_model.specs.Networks.{live_count}
 use Rattle.lnet_hashed.specs.Strashed.{of_kind}
-use Rattle.lnet_network.proofs.OfKind.{fit-kind, kind-fit, told-kind, count-kind}
+use Rattle.lnet_network.proofs.OfKind.{kind-fit, told-kind, count-kind}
 use Rattle.lnet_network.proofs.network.Network.reserve.Goals as goal
 
 pub reserve-requires-clause-fit : goal.reserve-requires-clause-fit

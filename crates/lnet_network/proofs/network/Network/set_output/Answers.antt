@@ -4,7 +4,8 @@ use Rattle.lnet_store.specs.StoreValues.{with_output}
 use Rattle.lnet_hashed.specs.Strashed.{of_kind}
 use Rattle.lnet_hashed.specs.Watches.{AreFitIn, AreToldIn}
 use Rattle.lnet_hashed.proofs.KeptViews.{told_same}
-use Rattle.lnet_network.proofs.OfKind.{entry-kind, fit-kind, kind-fit, told-kind}
+use Rattle.lnet_network.proofs.Uses.{is-output}
+use Rattle.lnet_network.proofs.OfKind.{entry-kind, fit-kind, kind-fit}
 use Rattle.lnet_network.proofs.OtherOutputs.{set-outputs, strashed-outputs, room-outputs, fit-outputs, output-kind}
 use Rattle.lnet_network.proofs.network.Network.set_output.Goals as goal
 
@@ -16,8 +17,10 @@ invariant_of-self g c =
     let is = set-outputs c.self.inside.0.0.hashed.store.network c.set_output.new.self.network c.args.k c.args.s c.set_output.ensures.network in
     (strashed-outputs g.G.Gates.KIND g.G.Gates.form c.self.inside.0.0.hashed.store.network c.set_output.new.self.network is c.self.invariant.0, room-outputs c.self.inside.0.0.hashed c.set_output.new.self is c.set_output.ensures.spare c.self.invariant.1)
 
-pub returns-clause-network : goal.returns-clause-network
-returns-clause-network g c = ap (of_kind g.G.Gates.KIND) c.set_output.ensures.network ∙ output-kind g.G.Gates.KIND c.self.inside.0.0.hashed.store.network c.args.k c.args.s ∙ ap (λ n. with_output n.core.network c.args.k c.args.s) c.self.view_is
+pub returns-clause-set : goal.returns-clause-set
+returns-clause-set g c =
+    is-output c.args.self.now.core.network (of_kind g.G.Gates.KIND c.set_output.new.self.network) c.args.s c.args.k
+    (ap (of_kind g.G.Gates.KIND) c.set_output.ensures.network ∙ output-kind g.G.Gates.KIND c.self.inside.0.0.hashed.store.network c.args.k c.args.s ∙ ap (λ n. with_output n.core.network c.args.k c.args.s) c.self.view_is)
 
 pub returns-clause-in_step : goal.returns-clause-in_step
 returns-clause-in_step g c =

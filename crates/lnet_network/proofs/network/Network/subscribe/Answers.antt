@@ -1,6 +1,6 @@
 use Rattle.std.proofs.Common.{sym, subst}
-use Rattle.lnet_hashed.specs.Watches.{AreFitIn, AreToldIn}
-use Rattle.lnet_network.proofs.OfKind.{fit-kind, kind-fit, told-kind}
+use Rattle.lnet_hashed.specs.Watches.{AreFitIn}
+use Rattle.lnet_network.proofs.OfKind.{fit-kind, kind-fit}
 use Rattle.lnet_network.proofs.network.Network.subscribe.Goals as goal
 
 pub subscribe-requires-clause-fit : goal.subscribe-requires-clause-fit

@@ -6,7 +6,7 @@ use Rattle.lnet_hashed.specs.Strashed.{of_kind}
 use Rattle.lnet_hashed.specs.Watches.{AreFitIn, AreToldIn}
 use Rattle.lnet_substitution.specs.Substitutions.{Substitutes}
 use Rattle.lnet_substitution.proofs.OtherKinds.{substitutes-of_kind}
-use Rattle.lnet_network.proofs.OfKind.{fit-kind, kind-fit, told-kind}
+use Rattle.lnet_network.proofs.OfKind.{kind-fit, told-kind}
 use Rattle.lnet_network.proofs.SeenAs.{kind-gate, kind-live, reaches-kind}
 use Rattle.lnet_network.proofs.network.Network.substitute.Goals as goal
 

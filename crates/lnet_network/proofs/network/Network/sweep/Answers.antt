@@ -2,7 +2,7 @@ use Rattle.std.proofs.Common.{sym, subst}
 use Rattle.lnet_hashed.specs.Strashed.{of_kind}
 use Rattle.lnet_hashed.specs.Swept.{IsSwept}
 use Rattle.lnet_hashed.specs.Watches.{AreFitIn, AreToldIn}
-use Rattle.lnet_network.proofs.OfKind.{swept-kind, swept-strashed, fit-kind, kind-fit, told-kind}
+use Rattle.lnet_network.proofs.OfKind.{swept-kind, swept-strashed, kind-fit, told-kind}
 use Rattle.lnet_network.proofs.network.Network.sweep.Goals as goal
 
 pub sweep-requires-clause-fit : goal.sweep-requires-clause-fit

@@ -4,8 +4,9 @@
     tools/try_wrong_bodies.py [CRATE ..]     those of these crates; where none is named, all
 
 They lie in wrong-bodies/CRATE/FAULT.edit, in the form of must-fail edits. A clone of the last commit gets them in the place of
-the crate's own edits, and `rt must-fail` tries them there: the check of the crate must fail with each. It proves the crates
-first, where this machine has not done so. Results of crates that are not tried stay in the file as they are.
+the crate's own edits, and `rt ci CRATE ..` tries them there: the check of the crate must fail with each. It proves the crates
+and those below them first, where no gate on this machine has done so. Results of crates that are not tried stay in the file as
+they are.
 """
 import datetime
 import glob
@@ -46,7 +47,7 @@ def put(clone, crate):
 
 def tried(clone, crates):
     """What came of each edit, as rt says it."""
-    run = subprocess.run(["rt", "must-fail", *crates], cwd=clone, stdout=subprocess.PIPE, stderr=subprocess.STDOUT, text=True)
+    run = subprocess.run(["rt", "ci", *crates], cwd=clone, stdout=subprocess.PIPE, stderr=subprocess.STDOUT, text=True)
     found = {}
     for line in run.stdout.splitlines():
         said = TOLD.match(line)

@@ -45,9 +45,6 @@ whole : (read : Result (ℕ × List ℕ) Fault) → with_low 0 1 read ≡ read
 whole (Ok x) = ap (λ (n : ℕ). made n x.1) (omega arith)
 whole (Err f) = refl
 
-pub groups_whole : (bytes : List ℕ) → with_low 0 1 (groups_at 5 bytes) ≡ groups_at 5 bytes
-groups_whole bytes = whole (groups_at 5 bytes)
-
 -- the scale of a group
 pub scale_small : (i : ℕ) → i < 5 → 128 ^ i ≤ 268435456
 scale_small zero lt = lit≤ tt

@@ -13,7 +13,7 @@ use Rattle.lnet_edge.specs.declared.fault.ReadError.TheVariants as errors
 use Rattle.lnet_aiger.specs.declared.header.Form.{Form}
 use Rattle.lnet_aiger.specs.declared.header.Form.TheVariants.{Ascii, Binary}
 use Rattle.lnet_aiger.specs.declared.header.Header.{Header}
-use Rattle.lnet_aiger.specs.Chain.{◌>>=◌, Gives, Fails}
+use Rattle.lnet_aiger.specs.Chain.{◌>>=◌, Fails}
 use Rattle.lnet_aiger.specs.Header.{header_line}
 use Rattle.lnet_aiger.specs.LineRules.{numbered_inputs, input_line, output_line, equation_line}
 use Rattle.lnet_aiger.specs.Symbols.{Ports}
@@ -81,9 +81,6 @@ content_fails bytes m e =
     (bind_err (item_at header_line (at bytes 1)) (λ header. body_at header.0 header.1 >>= λ body. named_at body.0 body.1) m e)
 
 -- ---- answers
-
-abbrev pub GivesCircuit : Result CircuitValue ReadError → Result CircuitValue Malformed → Type 0
-GivesCircuit r read = Gives (λ c. c) r read
 
 no_circuit : (bytes : List ℕ) (m : Malformed) → content_at bytes ≡ Err m → (c : CircuitValue) → Means bytes c → ⊥
 no_circuit bytes m e c means = no_err c m (sym (content_again bytes c means.spelled) ∙ e)

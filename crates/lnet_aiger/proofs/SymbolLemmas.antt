@@ -3,12 +3,12 @@ use Rattle.std.proofs.Common.{◌≡◌, ℕ, suc, ◌+◌, ◌<◌, ◌≤◌, 
 use Rattle.std.specs.Prelude.{◌&&◌}
 use Rattle.std.specs.List.{list_all, before_first, after_first, position_or_len, AllByRecursion}
 use Rattle.std.specs.Str.{IsAscii}
-use Rattle.std.proofs.lemmas.List.{drop_all, length-drop}
+use Rattle.std.proofs.lemmas.List.{drop_all}
 use Rattle.std.proofs.lemmas.Bool.Decides.{nat_tests}
 use Rattle.lnet_edge.specs.declared.fault.Fault.TheVariants as fault
 use Rattle.lnet_edge.specs.declared.fault.Malformed.{Malformed}
 use Rattle.lnet_edge.specs.Names.{IsName}
-use Rattle.lnet_lines.specs.Lines.{lines_of, after_line, is_newline}
+use Rattle.lnet_lines.specs.Lines.{lines_of}
 use Rattle.lnet_lines.specs.Numbers.{number_of}
 use Rattle.lnet_aiger.specs.declared.symbol.Side.{Side}
 use Rattle.lnet_aiger.specs.Header.{is_space}
@@ -71,10 +71,6 @@ pub symbols_at-fault : (number : ℕ) (rest line more : List ℕ) (p : Ports) (f
 unfolding symbols_at
 symbols_at-fault number rest line more p f total first c named so_far =
     sym so_far ∙ ap (λ (ls : List (List ℕ)). symbols_at number ls p) first ∙ by_comment line p _ false c ∙ ap (λ (r : Result Ports Malformed). r >>= λ s. symbols_at (number + 1) (lines_of more) s) named
-
-pub length-after_line : (rest : List ℕ) → (rest ≡ [] → ⊥) → length (after_line rest) < length rest
-length-after_line [] some = absurd (some refl)
-length-after_line (b ∷ bs) some = let d = length-drop (position_or_len is_newline (b ∷ bs) + 1) (b ∷ bs) in omega arith
 
 -- ---- UTF-8
 

@@ -5,6 +5,7 @@ use Rattle.std.specs.Prelude.{ℕ, ◌+◌, Bool, not, ◌&&◌, ◌||◌, List,
 use Rattle.std.specs.List.{slice_split, starts_with}
 use Rattle.lnet_edge.specs.declared.fault.Fault.{Fault}
 use Rattle.lnet_edge.specs.declared.fault.Fault.TheVariants as fault
+use Rattle.lnet_edge.specs.Circuits.{circuit_limit, output_limit}
 use Rattle.lnet_lines.specs.Numbers.{number_of}
 use Rattle.lnet_aiger.specs.declared.header.Form.{Form}
 use Rattle.lnet_aiger.specs.declared.header.Form.TheVariants.{Ascii, Binary}
@@ -57,7 +58,7 @@ top_fits Binary c = c.top == c.inputs + c.latches + c.gates
 
 -- counts past the limits
 abbrev pub are_too_many : Counts → Bool
-are_too_many c = nat_lt 1048576 (c.inputs + c.latches + c.gates) || nat_lt 100000000 (c.latches + c.outputs)
+are_too_many c = nat_lt circuit_limit (c.inputs + c.latches + c.gates) || nat_lt output_limit (c.latches + c.outputs)
 
 -- no property is counted
 abbrev pub are_plain : Counts → Bool

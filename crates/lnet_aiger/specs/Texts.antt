@@ -7,7 +7,7 @@ use Rattle.lnet_edge.specs.declared.circuit.WireRef.{WireRef}
 use Rattle.lnet_edge.specs.declared.circuit.InputPort.{InputPort}
 use Rattle.lnet_edge.specs.declared.circuit.OutputPort.{OutputPort}
 use Rattle.lnet_edge.specs.declared.circuit.Rule.TheVariants.{And}
-use Rattle.lnet_edge.specs.Circuits.{CircuitValue, EquationValue}
+use Rattle.lnet_edge.specs.Circuits.{CircuitValue, EquationValue, circuit_limit}
 use Rattle.lnet_edge.specs.Plain.{IsPlain}
 use Rattle.lnet_edge.specs.Shown.{input_names, output_names}
 use Rattle.lnet_edge.specs.Wires.{driven_wires}
@@ -17,7 +17,7 @@ use Rattle.lnet_aiger.specs.declared.body.Gate.{Gate}
 pub record IsWritable (c : CircuitValue) : Type 0 where
   pub plain : IsPlain c.equations
   pub ands : All (λ (e : EquationValue). e.rule ≡ And false) c.equations
-  pub few : length c.inputs + length c.equations ≤ 1048576
+  pub few : length c.inputs + length c.equations ≤ circuit_limit
 
 -- ---- variables and literals
 

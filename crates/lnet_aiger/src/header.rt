@@ -2,10 +2,11 @@
 
 ghost use Rattle.std.specs.Prelude.{◌≡◌, ◌+◌, ◌<◌, ◌≤◌, Some, None, length, slice_index, MatchOption, IfOk};
 ghost use Rattle.std.specs.List.{position_or_len, before_first, after_first};
+ghost use Rattle.lnet_edge.specs.Circuits.{circuit_limit, output_limit};
 ghost use Rattle.lnet_aiger.specs.Header.{is_space, numbers_of, at_most_nine, counts_of, header_of, header_line, top_fits, are_too_many, are_plain};
 
 use arrayvec::ArrayVec;
-use lnet_edge::Fault;
+use lnet_edge::{CIRCUIT_LIMIT, Fault, OUTPUT_LIMIT};
 use lnet_lines::number;
 
 /// The two forms of the format.
@@ -45,10 +46,6 @@ pub struct Counts {
     pub justice: u32,
     pub fairness: u32,
 }
-
-const MOST_VARIABLES: u64 = 1_048_576;
-
-const MOST_OUTPUTS: u64 = 100_000_000;
 
 /// The numbers of a line, one space apart; None where there are more than nine, or where a word is no number.
 pub fn numbers(line: &[u8]) -> Option<ArrayVec<u32, 9>>
@@ -102,8 +99,8 @@ fn word_len(bytes: &[u8]) -> usize
 #[tactic(auto, unfolding(crate::specs::Header::header_line))]
 pub fn header_in(line: &[u8]) -> Result<Header, Fault>
     ensures header { result ≡ header_line line.now }
-    ensures few { IfOk result (λ h. h.inputs + h.gates ≤ 1048576) }
-    ensures few_outputs { IfOk result (λ h. h.outputs ≤ 100000000) }
+    ensures few { IfOk result (λ h. h.inputs + h.gates ≤ circuit_limit) }
+    ensures few_outputs { IfOk result (λ h. h.outputs ≤ output_limit) }
 {
     if let Some(text) = line.strip_prefix(b"aag ") {
         let counts = counts_in(text)?;
@@ -158,8 +155,8 @@ fn or_zero(numbers: &[u32], place: usize) -> u32
 #[tactic(auto, unfolding(crate::specs::Header::header_of))]
 fn checked(form: Form, counts: &Counts) -> Result<Header, Fault>
     ensures header { result ≡ header_of form counts.now }
-    ensures few { IfOk result (λ h. h.inputs + h.gates ≤ 1048576) }
-    ensures few_outputs { IfOk result (λ h. h.outputs ≤ 100000000) }
+    ensures few { IfOk result (λ h. h.inputs + h.gates ≤ circuit_limit) }
+    ensures few_outputs { IfOk result (λ h. h.outputs ≤ output_limit) }
 {
     if !top_fits(form, counts) {
         return Err(Fault::Header);
@@ -202,8 +199,8 @@ fn top_fits(form: Form, counts: &Counts) -> bool
 fn are_too_many(counts: &Counts) -> bool
     ensures { result ≡ are_too_many counts.now }
 {
-    variables(counts) > MOST_VARIABLES
-        || u64::from(counts.latches) + u64::from(counts.outputs) > MOST_OUTPUTS
+    variables(counts) > CIRCUIT_LIMIT
+        || u64::from(counts.latches) + u64::from(counts.outputs) > OUTPUT_LIMIT
 }
 
 /// Whether no property is counted.

@@ -3,6 +3,7 @@
 ghost use Rattle.std.specs.Prelude.{◌≡◌, ◌++◌, ◌∷◌, [], ◌+◌, ◌*◌, ◌<◌, ◌≤◌, List, ℕ, length, max, min, IfOk, OnOk};
 ghost use Rattle.lnet_edge.specs.CircuitLists.{equation_view, equation_views};
 ghost use Rattle.lnet_edge.specs.Wires.{input_wires, targets, driven_wires, IsCircuit};
+ghost use Rattle.lnet_edge.specs.Circuits.{circuit_limit};
 ghost use Rattle.lnet_aiger.specs.Numberings.{KnowsPlaces, place_in, literals_view};
 ghost use Rattle.lnet_aiger.specs.Texts.{literal_of, gate_of};
 
@@ -15,7 +16,7 @@ pub type Variables = HashMap<u32, u32>;
 
 /// The variables of a circuit's wires: 0 for the constant, then the inputs from 1 on, then the equations in order.
 pub fn variables_of(alloc: Global, circuit: &Circuit) -> Result<Variables, AllocError>
-    requires { length circuit.now.inputs + length circuit.now.equations ≤ 1048576 }
+    requires { length circuit.now.inputs + length circuit.now.equations ≤ circuit_limit }
     ensures places { IfOk result (λ m. KnowsPlaces m (driven_wires circuit.now)) }
     // What the type keeps of the whole circuit.
     ensures circuit { OnOk result (IsCircuit circuit.now) }
@@ -39,7 +40,7 @@ fn number_wire(variables: &mut Variables, wire: u32, variable: u32) -> Result<()
 }
 
 fn number_inputs(variables: &mut Variables, inputs: &[InputPort]) -> Result<(), AllocError>
-    requires { length inputs.now ≤ 1048576 }
+    requires { length inputs.now ≤ circuit_limit }
     ensures { OnOk result ((xs : List ℕ) → KnowsPlaces variables.old xs → length xs ≡ 1 → KnowsPlaces variables.new (xs ++ input_wires inputs.now)) }
 {
     for (place, input) in inputs.iter().enumerate() {

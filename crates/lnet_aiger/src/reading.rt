@@ -2,7 +2,7 @@
 
 ghost use Rattle.std.specs.Prelude.{◌≡◌, ◌+◌, ◌*◌, ◌<◌, ◌≤◌, length, IfOk, IfErr, Ok};
 ghost use Rattle.lnet_edge.specs.CircuitLists.{equation_view, equation_views};
-ghost use Rattle.lnet_edge.specs.Circuits.{CircuitValue};
+ghost use Rattle.lnet_edge.specs.Circuits.{CircuitValue, circuit_limit, output_limit};
 ghost use Rattle.lnet_aiger.specs.Grammar.{Means};
 ghost use Rattle.lnet_aiger.specs.Faults.{Rejects};
 ghost use Rattle.lnet_aiger.specs.Chain.{Gives, GivesAt};
@@ -36,8 +36,8 @@ fn due<'a>(lines: &mut Lines<'a>) -> Result<&'a [u8], ReadError>
 #[tactic(auto, unfolding(crate::specs::Reading::item_at))]
 fn read_header(lines: &mut Lines<'_>) -> Result<Header, ReadError>
     ensures header { GivesAt (λ x. x) result lines.new (item_at header_line lines.old) }
-    ensures few { IfOk result (λ h. h.inputs + h.gates ≤ 1048576) }
-    ensures few_outputs { IfOk result (λ h. h.outputs ≤ 100000000) }
+    ensures few { IfOk result (λ h. h.inputs + h.gates ≤ circuit_limit) }
+    ensures few_outputs { IfOk result (λ h. h.outputs ≤ output_limit) }
 {
     let number = lines.number();
     let line = due(lines)?;
@@ -136,7 +136,7 @@ fn read_equations(
 
 /// The inputs of the binary form: variables 1, 2 and so on.
 fn numbered_inputs(alloc: Global, count: u32) -> Result<Vec<InputPort>, AllocError>
-    requires { count ≤ 1048576 }
+    requires { count ≤ circuit_limit }
     ensures { IfOk result (λ v. v.items ≡ numbered_inputs count) }
 {
     let mut items = Vec::new(alloc);
@@ -154,7 +154,7 @@ fn read_differences(
     count: u32,
     lines: &mut Lines<'_>,
 ) -> Result<Vec<Equation>, ReadError>
-    requires { inputs + count ≤ 1048576 }
+    requires { inputs + count ≤ circuit_limit }
     ensures { GivesAt (λ x. equation_views x.items) result lines.new (differences_at inputs count lines.old) }
 {
     let mut items = Vec::new(alloc);
@@ -180,7 +180,7 @@ fn read_ascii(alloc: Global, header: &Header, lines: &mut Lines<'_>) -> Result<P
 /// The body of the binary form.
 #[tactic(auto, unfolding(crate::specs::Reading::binary_at))]
 fn read_binary(alloc: Global, header: &Header, lines: &mut Lines<'_>) -> Result<Parts, ReadError>
-    requires { header.now.inputs + header.now.gates ≤ 1048576 }
+    requires { header.now.inputs + header.now.gates ≤ circuit_limit }
     ensures { GivesAt parts_view result lines.new (binary_at header.now lines.old) }
 {
     let outputs = read_outputs(alloc, header.outputs, header.top, lines)?;
@@ -191,7 +191,7 @@ fn read_binary(alloc: Global, header: &Header, lines: &mut Lines<'_>) -> Result<
 }
 
 fn read_body(alloc: Global, header: &Header, lines: &mut Lines<'_>) -> Result<Parts, ReadError>
-    requires { header.now.inputs + header.now.gates ≤ 1048576 }
+    requires { header.now.inputs + header.now.gates ≤ circuit_limit }
     ensures { GivesAt parts_view result lines.new (body_at header.now lines.old) }
 {
     match header.form {

@@ -8,6 +8,7 @@ ghost use Rattle.lnet_edge.specs.CircuitLists.{equation_view, equation_views};
 ghost use Rattle.lnet_aiger.specs.Numberings.{place_in, literals_view};
 ghost use Rattle.lnet_aiger.specs.Texts.{IsWritable, gate_of, number_text, header_text, input_text, output_text, gate_text, groups_text, delta_text, symbol_text, symbols_text, names_text, ports_by, gates_by, head_by, tail_by, ascii_text, binary_text};
 ghost use Rattle.lnet_edge.specs.Shown.{input_names, output_names};
+ghost use Rattle.lnet_edge.specs.Circuits.{circuit_limit};
 
 use crate::numbering::{Literals, Variables, literal, literals_of, plain_literal, variables_of};
 use lnet_edge::{Circuit, Equation, InputPort, Name, OutputPort};
@@ -20,7 +21,7 @@ fn put_ascii_header(
     outputs: usize,
     gates: usize,
 ) -> Result<(), AllocError>
-    requires { inputs + gates ≤ 1048576 }
+    requires { inputs + gates ≤ circuit_limit }
     ensures { OnOk result (string_bytes out.new ≡ string_bytes out.old ++ header_text (codes "aag ") inputs outputs gates) }
 {
     let top = inputs + gates;
@@ -34,7 +35,7 @@ fn put_binary_header(
     outputs: usize,
     gates: usize,
 ) -> Result<(), AllocError>
-    requires { inputs + gates ≤ 1048576 }
+    requires { inputs + gates ≤ circuit_limit }
     ensures { OnOk result (string_bytes out.new ≡ string_bytes out.old ++ header_text (codes "aig ") inputs outputs gates) }
 {
     let top = inputs + gates;

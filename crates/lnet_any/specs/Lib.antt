@@ -1,2 +1,1 @@
 pub mod AnyNets
-pub mod Forms

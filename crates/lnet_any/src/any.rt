@@ -8,7 +8,6 @@ ghost use Rattle.lnet_model.specs.Fanouts.{references};
 ghost use Rattle.lnet_model.specs.Values.{network_outputs, node_value, signal_value};
 ghost use Rattle.lnet_hashed.specs.Strashed.{IsStrashed};
 ghost use Rattle.lnet_substitution.specs.Substitutions.{Substitutes};
-ghost use Rattle.lnet_any.specs.Forms.{form_of};
 ghost use Rattle.lnet_model.specs.Networks.{IsLive, gate_count as gates_in};
 ghost use Rattle.lnet_model.specs.Dags.{IsStored};
 ghost use Rattle.lnet_model.specs.Levels.{depth as depth_of};
@@ -206,11 +205,11 @@ impl AnyNet {
         requires live { IsLive (network_in self.old) signal.node.0 }
         requires free { Depends (network_in self.old) signal gate.0 → ⊥ }
         requires in_step { AreFitBy ⟦<dyn View as View>⟧ (network_in self.old) (core_in self.old).room (watch_in self.old) }
-        ensures substitutes { Substitutes (network_in self.old).kind (form_of (network_in self.old).kind) (network_in self.old) gate.0 signal (network_in self.new) }
+        ensures substitutes { Substitutes (network_in self.old).kind (network_in self.old) gate.0 signal (network_in self.new) }
         // Equal functions leave the outputs as they were.
         ensures outputs { ((a : ℕ → Bool) → signal_value (network_in self.old) a signal ≡ node_value (network_in self.old) a gate.0) → (a : ℕ → Bool) → network_outputs (network_in self.new) a ≡ network_outputs (network_in self.old) a }
         ensures stored { IsStored (network_in self.new) }
-        ensures strashed { IsStrashed (network_in self.new).kind (form_of (network_in self.new).kind) (network_in self.new) }
+        ensures strashed { IsStrashed (network_in self.new).kind (network_in self.new) }
         ensures tidy { ((n : ℕ) → IsGateAt (network_in self.old) n → 0 < references (network_in self.old) n) → (n : ℕ) → IsGateAt (network_in self.new) n → 0 < references (network_in self.new) n }
         ensures kind { (network_in self.new).kind ≡ (network_in self.old).kind }
         ensures inputs { (network_in self.new).inputs ≡ (network_in self.old).inputs }

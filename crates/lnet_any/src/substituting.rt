@@ -22,11 +22,11 @@ pub(crate) fn substitute<G: Gates>(net: &mut Network<G>, gate: Node, signal: Sig
     requires live { IsLive net.old.core.network signal.node.0 }
     requires free { Depends net.old.core.network signal gate.0 → ⊥ }
     requires in_step { AreFitBy ⟦<dyn View as View>⟧ net.old.core.network net.old.core.room net.old.watch }
-    ensures substitutes { Substitutes G.KIND G.form net.old.core.network gate.0 signal net.new.core.network }
+    ensures substitutes { Substitutes G.KIND net.old.core.network gate.0 signal net.new.core.network }
     // Equal functions leave the outputs as they were.
     ensures outputs { ((a : ℕ → Bool) → signal_value net.old.core.network a signal ≡ node_value net.old.core.network a gate.0) → (a : ℕ → Bool) → network_outputs net.new.core.network a ≡ network_outputs net.old.core.network a }
     ensures stored { IsStored net.new.core.network }
-    ensures strashed { IsStrashed G.KIND G.form net.new.core.network }
+    ensures strashed { IsStrashed G.KIND net.new.core.network }
     ensures tidy { ((n : ℕ) → IsGateAt net.old.core.network n → 0 < references net.old.core.network n) → (n : ℕ) → IsGateAt net.new.core.network n → 0 < references net.new.core.network n }
     ensures kind_is { net.old.core.network.kind ≡ G.KIND }
     ensures kind { net.new.core.network.kind ≡ net.old.core.network.kind }

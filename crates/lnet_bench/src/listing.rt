@@ -1,6 +1,7 @@
 //! The lists of a circuit, statement by statement.
 
 ghost use Rattle.std.specs.Prelude.{◌≡◌, ◌+◌, ◌<◌, ◌≤◌, length, IsTrue, IfOk, OnOk};
+ghost use Rattle.lnet_edge.specs.Circuits.{wire_limit};
 ghost use Rattle.lnet_bench.specs.Statements.{is_name, names_in, statement_view, operands_length};
 ghost use Rattle.lnet_bench.specs.Listing.{Fits, nothing, add, add_input, add_output, add_gate, add_constant, lists_view, constant_rule};
 
@@ -53,7 +54,7 @@ pub(crate) fn no_lists<'a>(alloc: Global) -> Lists<'a>
 
 impl<'a> Lists<'a> {
     fn add_input(&mut self, alloc: Global, name: &'a [u8]) -> Result<(), AllocError>
-        requires room { length self.old.wires < 4294967295 }
+        requires room { length self.old.wires < wire_limit }
         requires name { IsTrue (is_name name.now) }
         ensures value { OnOk result (lists_view self.new ≡ add_input (lists_view self.old) name.now) }
         ensures few { OnOk result (length self.new.wires ≤ length self.old.wires + 1) }
@@ -70,7 +71,7 @@ impl<'a> Lists<'a> {
         driven: Driven,
         name: &'a [u8],
     ) -> Result<(), AllocError>
-        requires room { length self.old.wires < 4294967295 }
+        requires room { length self.old.wires < wire_limit }
         requires name { IsTrue (is_name name.now) }
         ensures value { OnOk result (lists_view self.new ≡ add_output driven (lists_view self.old) name.now) }
         ensures few { OnOk result (length self.new.wires ≤ length self.old.wires + 1) }
@@ -89,7 +90,7 @@ impl<'a> Lists<'a> {
         rule: Rule,
         args: &'a [u8],
     ) -> Result<(), AllocError>
-        requires { length self.old.wires + length args.now + 2 < 4294967295 }
+        requires { length self.old.wires + length args.now + 2 < wire_limit }
         ensures value { OnOk result (lists_view self.new ≡ add_gate driven (lists_view self.old) target.now rule (names_in args.now)) }
         ensures few { OnOk result (length self.new.wires ≤ length self.old.wires + length args.now + 2) }
     {
@@ -109,7 +110,7 @@ impl<'a> Lists<'a> {
         target: &'a [u8],
         value: bool,
     ) -> Result<(), AllocError>
-        requires { length self.old.wires < 4294967295 }
+        requires { length self.old.wires < wire_limit }
         ensures value { OnOk result (lists_view self.new ≡ add_constant (lists_view self.old) target.now value) }
         ensures few { OnOk result (length self.new.wires ≤ length self.old.wires + 1) }
     {
@@ -129,7 +130,7 @@ impl<'a> Lists<'a> {
         driven: Driven,
         statement: Statement<'a>,
     ) -> Result<(), AllocError>
-        requires room { length self.old.wires + operands_length statement + 2 < 4294967295 }
+        requires room { length self.old.wires + operands_length statement + 2 < wire_limit }
         requires fits { Fits (statement_view statement) }
         ensures value { OnOk result (lists_view self.new ≡ add driven (lists_view self.old) (statement_view statement.entry)) }
         ensures few { OnOk result (length self.new.wires ≤ length self.old.wires + operands_length statement.entry + 2) }

@@ -1,7 +1,7 @@
 //! Reading a text as a circuit.
 
 ghost use Rattle.std.specs.Prelude.{◌≡◌, ◌+◌, ◌*◌, ◌<◌, ◌≤◌, length, OnOk, IfOk, IfErr};
-ghost use Rattle.lnet_edge.specs.Circuits.{CircuitValue};
+ghost use Rattle.lnet_edge.specs.Circuits.{CircuitValue, wire_limit, output_limit};
 ghost use Rattle.lnet_edge.specs.CircuitLists.{equation_views};
 ghost use Rattle.lnet_edge.specs.Outside.{file_limit};
 ghost use Rattle.lnet_edge.specs.Wires.{HasArities, IsCircuit};
@@ -27,7 +27,7 @@ fn add_line<'a>(
     line: &'a [u8],
     lists: &mut Lists<'a>,
 ) -> Result<(), ReadError>
-    requires { length lists.old.wires + length line.now + 2 < 4294967295 }
+    requires { length lists.old.wires + length line.now + 2 < wire_limit }
     ensures added { Adds result (lists_view lists.new) (line_after driven number (lists_view lists.old) line.now) }
     ensures few { OnOk result (length lists.new.wires ≤ length lists.old.wires + length line.now + 2) }
 {
@@ -61,7 +61,7 @@ fn read_lines<'a>(alloc: Global, driven: Driven, bytes: &'a [u8]) -> Result<List
 fn circuit_from<'a>(alloc: Global, lists: Lists<'a>) -> Result<Circuit, ReadError>
     requires arities { HasArities (equation_views lists.equations.items) }
     requires few { length lists.inputs.items + length lists.equations.items < 4294967296 }
-    requires few_outputs { length lists.outputs.items ≤ 100000000 }
+    requires few_outputs { length lists.outputs.items ≤ output_limit }
     ensures found { IfOk result (λ c. (c ≡ circuit_in (lists_view lists.entry)) × IsCircuit c) }
     ensures refused { IfErr result (RefusesCircuit (circuit_in (lists_view lists.entry))) }
 {

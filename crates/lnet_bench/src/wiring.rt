@@ -2,6 +2,7 @@
 
 ghost use Rattle.std.specs.Prelude.{◌≡◌, ◌+◌, ◌<◌, ◌≤◌, length, IfOk, OnOk};
 ghost use Rattle.std.specs.Str.{bytes_eq};
+ghost use Rattle.lnet_edge.specs.Circuits.{wire_limit};
 ghost use Rattle.lnet_wires.specs.Naming.{with_name};
 ghost use Rattle.lnet_bench.specs.Statements.{names_in};
 ghost use Rattle.lnet_bench.specs.Wiring.{constant_by, refer, refer_all};
@@ -39,7 +40,7 @@ pub(crate) fn refer<'a>(
     driven: Driven,
     name: &'a [u8],
 ) -> Result<WireRef, AllocError>
-    requires { length wires.old < 4294967295 }
+    requires { length wires.old < wire_limit }
     ensures value { IfOk result (λ r. (r, wires.new) ≡ refer driven wires.old name.now) }
     ensures few { OnOk result (length wires.new ≤ length wires.old + 1) }
 {
@@ -62,7 +63,7 @@ pub(crate) fn refer_all<'a>(
     driven: Driven,
     args: &'a [u8],
 ) -> Result<SmallVec<WireRef, 4>, AllocError>
-    requires { length wires.old + length args.now + 1 < 4294967295 }
+    requires { length wires.old + length args.now + 1 < wire_limit }
     ensures value { IfOk result (λ rs. (rs.items, wires.new) ≡ refer_all driven wires.old (names_in args.now)) }
     ensures few { OnOk result (length wires.new ≤ length wires.old + length args.now + 1) }
 {

@@ -55,10 +55,6 @@ pub differ_both : {X : Type 0} (xs ys : List X) → Differ xs → Differ ys → 
 differ_both [] ys a b c = b
 differ_both (x ∷ xs) ys a b c = (all_both (λ y. x ≢ y) xs ys a.0 c.0, differ_both xs ys a.1 b c.1)
 
-pub differ_first : {X : Type 0} (xs ys : List X) → Differ (xs ++ ys) → Differ xs
-differ_first [] ys d = tt
-differ_first (x ∷ xs) ys d = (all_first (λ y. x ≢ y) xs ys d.0, differ_first xs ys d.1)
-
 pub differ_second : {X : Type 0} (xs ys : List X) → Differ (xs ++ ys) → Differ ys
 differ_second [] ys d = d
 differ_second (x ∷ xs) ys d = differ_second xs ys d.1

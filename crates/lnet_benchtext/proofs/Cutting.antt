@@ -101,10 +101,6 @@ pub record IsWord (word : List ℕ) : Type 0 where
 pub words_alone : (word : List ℕ) → IsWord word → words_of word ≡ word ∷ []
 words_alone word is = ap (filter (λ w. nat_lt 0 (length w))) (parts_none is_blank word is.whole) ∙ rw is.some refl
 
--- behind a space
-pub words_spaced : (text : List ℕ) → words_of (32 ∷ text) ≡ words_of text
-words_spaced text = refl
-
 pub words_before : (word text : List ℕ) → IsWord word → words_of (word ++ 32 ∷ text) ≡ word ∷ words_of text
 words_before word text is = ap (filter (λ w. nat_lt 0 (length w))) (parts_at is_blank word 32 text is.whole refl) ∙ rw is.some refl
 

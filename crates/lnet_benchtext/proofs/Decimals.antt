@@ -10,7 +10,7 @@ use Rattle.std.proofs.lemmas.Bool.Decides.{nat_tests}
 use Rattle.std.proofs.lemmas.Fmt.{hex_one_digit}
 use Rattle.lnet_bench.specs.Statements.{is_name_byte, is_name}
 use Rattle.lnet_naming.specs.Settling.{made_name}
-use Rattle.lnet_benchwriter.specs.Tables.{hex_digits}
+use Rattle.lnet_tables.specs.Digits.{hex_digits}
 use Rattle.lnet_benchtext.proofs.Cutting.{true_both, some_bytes}
 
 glyph_name : (d : ℕ) → d < 10 → is_name_byte (digit_glyph false d) ≡ true

@@ -23,7 +23,8 @@ use Rattle.lnet_tables.proofs.RowNumbers.{number_below}
 use Rattle.lnet_bench.specs.Statements.{StatementValue, Input, Output, Gate, Constant, is_name}
 use Rattle.lnet_bench.specs.Texts.{statements_of}
 use Rattle.lnet_benchwriter.specs.Nodes.{use_name, is_turned, uses_of}
-use Rattle.lnet_benchwriter.specs.Tables.{gate_table, digit_count, hex_digits}
+use Rattle.lnet_tables.specs.Digits.{digit_count, hex_digits}
+use Rattle.lnet_benchwriter.specs.Tables.{gate_table}
 use Rattle.lnet_benchwriter.specs.Texts.{port_line, gate_line, constant_line, output_lines, gate_word, complement_line, ascending, input_complements, word_lines, word_output, table_word, table_line, shown_name, table_output, is_table_rule, has_tables, ports_text, word_form, table_form, form_text, bench_text}
 use Rattle.lnet_benchtext.specs.Written.{HasNames, port_statements, output_statements, complement_statement, input_complement_statements, word_statements, word_output_statement, word_form_statements, table_statement, table_output_statement, table_form_statements, form_statements, written_statements}
 use Rattle.lnet_benchtext.proofs.Cutting.{both_true}

@@ -12,7 +12,7 @@ use Rattle.lnet_edge.specs.declared.circuit.Rule.TheVariants.{And, Xor, Lut}
 use Rattle.lnet_words.specs.Cutting.{is_byte, words_of}
 use Rattle.lnet_bench.specs.Gates.{gate_rule, other_gate_rule, is_table, table_of, fits_rows, rule_of_table, table_rule}
 use Rattle.lnet_bench.specs.Statements.{is_name_byte, is_name, rule_of}
-use Rattle.lnet_benchwriter.specs.Tables.{digit_count, hex_digits}
+use Rattle.lnet_tables.specs.Digits.{digit_count, hex_digits}
 use Rattle.lnet_benchwriter.specs.Texts.{gate_word}
 use Rattle.lnet_benchtext.proofs.Cutting.{true_both, some_bytes, all-append, words_before}
 use Rattle.lnet_benchtext.proofs.NameBytes.{is_line_byte, opens_none, name_line, name_word}

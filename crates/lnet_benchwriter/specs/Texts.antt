@@ -17,9 +17,8 @@ use Rattle.lnet_benchwriter.specs.declared.writing.Form.TheVariants.{Words, Tabl
 use Rattle.lnet_nodes.specs.Nodes.{label_of, node_name}
 use Rattle.lnet_nodes.specs.Rows.{variables}
 use Rattle.lnet_benchwriter.specs.Nodes.{constant_name, use_name, is_turned, uses_of}
-use Rattle.lnet_benchwriter.specs.Tables.{gate_table, digit_count, hex_digits}
-
--- ---- lines
+use Rattle.lnet_benchwriter.specs.Tables.{gate_table}
+use Rattle.lnet_tables.specs.Digits.{digit_count, hex_digits}
 
 -- `WORD(NAME)`
 abbrev pub port_line : List ℕ → List ℕ → List ℕ

@@ -1,7 +1,6 @@
 //! The form in which gates have tables.
 
-ghost use Rattle.std.specs.Prelude.{◌≡◌, ◌≤◌, ◌<◌, ◌++◌, ◌∷◌, ◌/◌, ◌%◌, ◌^◌, ◌==◌, false, [], OnOk, codes, length, map, IsTrue, string_bytes};
-ghost use Rattle.std.specs.Fmt.{digits};
+ghost use Rattle.std.specs.Prelude.{◌≡◌, ◌≤◌, ◌++◌, OnOk, codes, length, map, IsTrue, string_bytes};
 ghost use Rattle.std.specs.List.{flat_map, list_all};
 ghost use Rattle.lnet_edge.specs.Wires.{HasArities};
 ghost use Rattle.lnet_edge.specs.CircuitLists.{equation_view, equation_views};
@@ -11,49 +10,15 @@ ghost use Rattle.lnet_naming.specs.Settling.{made_name};
 ghost use Rattle.lnet_nodes.specs.Nodes.{node_name};
 ghost use Rattle.lnet_nodes.specs.Kept.{label_in};
 ghost use Rattle.lnet_nodes.specs.Rows.{variables};
-ghost use Rattle.lnet_benchwriter.specs.Tables.{digit_count, hex_digits, gate_table};
+ghost use Rattle.lnet_benchwriter.specs.Tables.{gate_table};
 ghost use Rattle.lnet_benchwriter.specs.Texts.{constant_line, gate_line, separated, table_line, output_word, shown_name, table_output, table_word};
 
 use crate::names::constant_name;
 use crate::rows::gate_table;
 use lnet_edge::{Equation, WireRef};
 use lnet_nodes::{Labels, put_node, variables};
+use lnet_tables::put_digits;
 use std::alloc::AllocError;
-
-/// One hexadecimal digit of a table: that of the rows from `4 * place` on.
-fn put_digit(out: &mut String, table: u64, place: u32) -> Result<(), AllocError>
-    requires { place < 16 }
-    ensures { OnOk result (string_bytes out.new ≡ string_bytes out.old ++ digits 16 false ((table / 16 ^ place) % 16)) }
-{
-    let digit = table / 16u64.pow(place) % 16;
-    write!(out, "{digit:x}")
-}
-
-/// The table's least `count` hexadecimal digits, the most significant first.
-fn put_digits(out: &mut String, table: u64, count: u32) -> Result<(), AllocError>
-    requires { count ≤ 16 }
-    ensures { OnOk result (string_bytes out.new ≡ string_bytes out.old ++ hex_digits count table) }
-{
-    for done in 0..count {
-        put_digit(out, table, count - 1 - done)?;
-    }
-    Ok(())
-}
-
-/// How many hexadecimal digits a table of so many operands has.
-fn digit_count(operands: usize) -> u32
-    requires { operands ≤ 6 }
-    ensures value { result ≡ digit_count operands }
-    ensures few { result ≤ 16 }
-{
-    match operands {
-        0 | 1 | 2 => 1,
-        3 => 2,
-        4 => 4,
-        5 => 8,
-        _ => 16,
-    }
-}
 
 fn put_next(out: &mut String, labels: &Labels, node: u32) -> Result<(), AllocError>
     ensures { OnOk result (string_bytes out.new ≡ string_bytes out.old ++ (codes ", " ++ node_name (label_in labels.now) node)) }
@@ -102,7 +67,7 @@ fn put_head(out: &mut String, equation: &Equation, operands: usize) -> Result<()
 {
     let node = equation.target.0;
     write!(out, "_n{node} = LUT 0x")?;
-    put_digits(out, gate_table(equation, operands), digit_count(operands))?;
+    put_digits(out, gate_table(equation, operands), operands)?;
     out.push_str(" (")
 }
 

@@ -2,6 +2,7 @@
 
 ghost use Rattle.std.specs.Prelude.{◌≡◌, ◌+◌, ◌<◌, ◌≤◌, length, IsTrue, IfOk, OnOk};
 ghost use Rattle.std.specs.List.{list_all};
+ghost use Rattle.lnet_edge.specs.Circuits.{wire_limit};
 ghost use Rattle.lnet_bliflines.specs.Words.{is_word, word_lists};
 ghost use Rattle.lnet_blif.specs.Numbering.{with_names};
 ghost use Rattle.lnet_blif.specs.Listing.{Fits, nothing, add, add_input, add_inputs, add_output, add_outputs, see_cover, table_of, uses_of, closed, commanded, position_of, lists_view, state_view, table_view, place_view, statement_view, names_count, names_fit};
@@ -40,7 +41,7 @@ fn uses<'a>(
     wires: &mut Wires<'a>,
     names: &[&'a [u8]],
 ) -> Result<SmallVec<WireRef, 4>, AllocError>
-    requires { length wires.old + length names.now < 4294967295 }
+    requires { length wires.old + length names.now < wire_limit }
     ensures uses { IfOk result (λ refs. refs.items ≡ uses_of wires.old (word_lists names.now)) }
     ensures names { OnOk result (wires.new ≡ with_names wires.old (word_lists names.now)) }
     ensures few { OnOk result (length wires.new ≤ length wires.old + length names.now) }
@@ -70,7 +71,7 @@ pub(crate) fn no_lists<'a>(alloc: Global) -> Lists<'a>
 
 impl<'a> Lists<'a> {
     fn add_input(&mut self, alloc: Global, name: &'a [u8]) -> Result<(), AllocError>
-        requires room { length self.old.wires < 4294967295 }
+        requires room { length self.old.wires < wire_limit }
         requires name { IsTrue (is_word name.now) }
         ensures value { OnOk result (lists_view self.new ≡ add_input (lists_view self.old) name.now) }
         ensures few { OnOk result (length self.new.wires ≤ length self.old.wires + 1) }
@@ -82,7 +83,7 @@ impl<'a> Lists<'a> {
     }
 
     fn add_inputs(&mut self, alloc: Global, names: &[&'a [u8]]) -> Result<(), AllocError>
-        requires room { length self.old.wires + length names.now < 4294967295 }
+        requires room { length self.old.wires + length names.now < wire_limit }
         requires names { IsTrue (list_all is_word (word_lists names.now)) }
         ensures value { OnOk result (lists_view self.new ≡ add_inputs (lists_view self.old) (word_lists names.now)) }
         ensures few { OnOk result (length self.new.wires ≤ length self.old.wires + length names.now) }
@@ -94,7 +95,7 @@ impl<'a> Lists<'a> {
     }
 
     fn add_output(&mut self, alloc: Global, name: &'a [u8]) -> Result<(), AllocError>
-        requires room { length self.old.wires < 4294967295 }
+        requires room { length self.old.wires < wire_limit }
         requires name { IsTrue (is_word name.now) }
         ensures value { OnOk result (lists_view self.new ≡ add_output (lists_view self.old) name.now) }
         ensures few { OnOk result (length self.new.wires ≤ length self.old.wires + 1) }
@@ -109,7 +110,7 @@ impl<'a> Lists<'a> {
     }
 
     fn add_outputs(&mut self, alloc: Global, names: &[&'a [u8]]) -> Result<(), AllocError>
-        requires room { length self.old.wires + length names.now < 4294967295 }
+        requires room { length self.old.wires + length names.now < wire_limit }
         requires names { IsTrue (list_all is_word (word_lists names.now)) }
         ensures value { OnOk result (lists_view self.new ≡ add_outputs (lists_view self.old) (word_lists names.now)) }
         ensures few { OnOk result (length self.new.wires ≤ length self.old.wires + length names.now) }
@@ -127,7 +128,7 @@ impl<'a> Lists<'a> {
         operands: &[&'a [u8]],
         target: &'a [u8],
     ) -> Result<Table, AllocError>
-        requires { length self.old.wires + length operands.now + 1 < 4294967295 }
+        requires { length self.old.wires + length operands.now + 1 < wire_limit }
         ensures value { OnOk result (lists_view self.new ≡ see_cover (lists_view self.old) (word_lists operands.now) target.now) }
         ensures table { IfOk result (λ t. table_view t ≡ table_of self.old.wires (word_lists operands.now) target.now) }
         ensures few { OnOk result (length self.new.wires ≤ length self.old.wires + length operands.now + 1) }
@@ -163,7 +164,7 @@ impl<'a> Lists<'a> {
         alloc: Global,
         command: Statement<'_, 'a>,
     ) -> Result<Place, AllocError>
-        requires room { length self.old.wires + names_count command < 4294967295 }
+        requires room { length self.old.wires + names_count command < wire_limit }
         requires fits { IsTrue (names_fit (statement_view command)) }
         ensures value { IfOk result (λ place. state_view self.new place ≡ commanded (lists_view self.old) (statement_view command.entry)) }
         ensures few { OnOk result (length self.new.wires ≤ length self.old.wires + names_count command.entry) }
@@ -192,7 +193,7 @@ impl<'a> Lists<'a> {
         place: Place,
         statement: Statement<'_, 'a>,
     ) -> Result<Place, AllocError>
-        requires room { length self.old.wires + names_count statement < 4294967295 }
+        requires room { length self.old.wires + names_count statement < wire_limit }
         requires fits { Fits (position_of (place_view place)) (statement_view statement) }
         ensures value { IfOk result (λ after. state_view self.new after ≡ add (state_view self.old place) (statement_view statement.entry)) }
         ensures few { OnOk result (length self.new.wires ≤ length self.old.wires + names_count statement.entry) }

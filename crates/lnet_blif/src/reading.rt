@@ -2,7 +2,7 @@
 
 ghost use Rattle.std.specs.Prelude.{◌≡◌, ◌+◌, ◌<◌, ◌≤◌, length, OnOk, IfOk, IfErr, IsTrue};
 ghost use Rattle.std.specs.List.{list_all};
-ghost use Rattle.lnet_edge.specs.Circuits.{CircuitValue};
+ghost use Rattle.lnet_edge.specs.Circuits.{CircuitValue, wire_limit, output_limit};
 ghost use Rattle.lnet_edge.specs.CircuitLists.{equation_views};
 ghost use Rattle.lnet_edge.specs.Outside.{file_limit};
 ghost use Rattle.lnet_edge.specs.Wires.{HasArities, IsCircuit};
@@ -26,7 +26,7 @@ fn add_line<'a>(
     place: Place,
     line: TextLine<'a>,
 ) -> Result<Place, ReadError>
-    requires room { length lists.old.wires + length line.words.items < 4294967295 }
+    requires room { length lists.old.wires + length line.words.items < wire_limit }
     requires names { IsTrue (list_all is_word (word_lists line.words.items)) }
     ensures added { Gives (λ after. state_view lists.new after) result (line_after (state_view lists.old place) (line_view line.entry)) }
     ensures few { OnOk result (length lists.new.wires ≤ length lists.old.wires + length line.entry.words.items) }
@@ -64,7 +64,7 @@ fn read_lines<'a>(alloc: Global, bytes: &'a [u8]) -> Result<Lists<'a>, ReadError
 fn circuit_from<'a>(alloc: Global, lists: Lists<'a>) -> Result<Circuit, ReadError>
     requires arities { HasArities (equation_views lists.equations.items) }
     requires few { length lists.inputs.items + length lists.equations.items < 4294967296 }
-    requires few_outputs { length lists.outputs.items ≤ 100000000 }
+    requires few_outputs { length lists.outputs.items ≤ output_limit }
     ensures found { IfOk result (λ c. (c ≡ circuit_in (lists_view lists.entry)) × IsCircuit c) }
     ensures refused { IfErr result (RefusesCircuit (circuit_in (lists_view lists.entry))) }
 {

@@ -3,6 +3,7 @@
 ghost use Rattle.std.specs.Prelude.{◌≡◌, ◌≤◌, ◌+◌, length, IfOk};
 ghost use Rattle.lnet_edge.specs.Outside.{file_limit};
 ghost use Rattle.lnet_edge.specs.Plain.{IsPlain};
+ghost use Rattle.lnet_edge.specs.Circuits.{circuit_limit};
 ghost use Rattle.lnet_blifwriter.specs.Texts.{blif_text};
 ghost use Rattle.lnet_blifmeans.specs.Same.{MeansSame};
 
@@ -19,7 +20,7 @@ pub fn write(alloc: Global, circuit: &Circuit) -> Result<Vec<u8>, AllocError>
     // The bytes are the circuit's text.
     ensures text { IfOk result (λ v. v.items ≡ blif_text circuit.now) }
     // Where the circuit is of a size that networks have, they mean a circuit with the same outputs, under the settled names.
-    ensures means { length circuit.now.inputs + length circuit.now.equations ≤ 1048576 → IfOk result (λ v. MeansSame v.items circuit.now) }
+    ensures means { length circuit.now.inputs + length circuit.now.equations ≤ circuit_limit → IfOk result (λ v. MeansSame v.items circuit.now) }
     // So they do where they are no more than a file may have.
     ensures in_file { IfOk result (λ v. length v.items ≤ file_limit → MeansSame v.items circuit.now) }
 {

@@ -7,10 +7,6 @@ use Rattle.std.proofs.lemmas.List.{length-append, length-map}
 use Rattle.std.proofs.lemmas.Cmp.{nat_cmp_total}
 use Rattle.lnet_gates.specs.declared.signal.Signal.{Signal}
 use Rattle.lnet_gates.specs.declared.gate.Kind.{Kind}
-use Rattle.lnet_gates.specs.declared.normal.Normal.{Normal}
-use Rattle.lnet_gates.specs.Gates.{GateValue}
-use Rattle.lnet_gates.specs.Natives.{IsNativeGate}
-use Rattle.lnet_gates.specs.NormalLaws.{NormalLaws}
 use Rattle.lnet_model.specs.Networks.{NetworkValue, Entry, Constant, entry_at, live_count}
 use Rattle.lnet_model.specs.Along.{over}
 use Rattle.lnet_model.specs.Values.{signal_value, network_outputs}
@@ -63,18 +59,18 @@ first-sound c kind = record {
   valued = λ w s found a. absurd cc;
 }
 
-module _ (kind : Kind) (form : GateValue → Normal) (c : CircuitValue) where
+module _ (kind : Kind) (c : CircuitValue) where
   -- the inputs are a part of what is needed
-  pub ports-within : 1 + length c.inputs ≤ numbers_needed kind form c
+  pub ports-within : 1 + length c.inputs ≤ numbers_needed kind c
   unfolding raised
   ports-within =
       let first = first-count kind in
       let ports = ports-count (first_building kind) c.inputs in
-      let more = places-grows kind form c.equations (with_ports (first_building kind) c.inputs) (order_of c) in
+      let more = places-grows kind c.equations (with_ports (first_building kind) c.inputs) (order_of c) in
       omega arith
 
-  module _ (laws : NormalLaws (IsNativeGate kind) form) (circuit : IsCircuit c) (words : All (FitsPlace c.equations) (order_of c)) (few : numbers_needed kind form c ≤ NUMBERS) where
-    pub raised-sound : IsRaised c (order_of c) (raised kind form c)
+  module _ (circuit : IsCircuit c) (words : All (FitsPlace c.equations) (order_of c)) (few : numbers_needed kind c ≤ NUMBERS) where
+    pub raised-sound : IsRaised c (order_of c) (raised kind c)
     unfolding raised
     raised-sound =
         let first = first-count kind in
@@ -86,7 +82,7 @@ module _ (kind : Kind) (form : GateValue → Normal) (c : CircuitValue) where
           inputs = λ w k found. ports-known (first_building kind) c.inputs 0 w k found;
           done_known = λ k e there at. absurd (let z : false ≡ true = there in cc);
         } in
-        places-raised c circuit kind form laws (order_of c) [] (with_ports (first_building kind) c.inputs) start (order-sound c circuit).order words few
+        places-raised c circuit kind (order_of c) [] (with_ports (first_building kind) c.inputs) start (order-sound c circuit).order words few
 
 -- ---- the outputs
 
@@ -132,10 +128,10 @@ with_outputs-outputs N (s ∷ ss) =
     omega arith
 
 -- as many as the circuit has, before the sweep
-pub unswept-ports : (kind : Kind) (form : GateValue → Normal) (c : CircuitValue) → NormalLaws (IsNativeGate kind) form → IsCircuit c → All (FitsPlace c.equations) (order_of c) → numbers_needed kind form c ≤ NUMBERS → (length (unswept kind form c).inputs ≡ length c.inputs) × (length (unswept kind form c).outputs ≡ length c.outputs)
-unswept-ports kind form c laws circuit words few =
-    let b : Building = raised kind form c in
-    let h = raised-sound kind form c laws circuit words few in
+pub unswept-ports : (kind : Kind) (c : CircuitValue) → IsCircuit c → All (FitsPlace c.equations) (order_of c) → numbers_needed kind c ≤ NUMBERS → (length (unswept kind c).inputs ≡ length c.inputs) × (length (unswept kind c).outputs ≡ length c.outputs)
+unswept-ports kind c circuit words few =
+    let b : Building = raised kind c in
+    let h = raised-sound kind c circuit words few in
     let ss = output_signals b.signals c.outputs in
     let outputs = with_outputs-outputs b.network ss in
     let none = ap (λ (os : List Signal). length os) h.sound.outputs in
@@ -143,11 +139,11 @@ unswept-ports kind form c laws circuit words few =
     (ap (λ (ns : List ℕ). length ns) (with_outputs-inputs b.network ss) ∙ h.sound.inputs, omega arith)
 
 -- the outputs have the circuit's values, before the sweep
-pub unswept-values : (kind : Kind) (form : GateValue → Normal) (c : CircuitValue) → NormalLaws (IsNativeGate kind) form → IsCircuit c → All (FitsPlace c.equations) (order_of c) → numbers_needed kind form c ≤ NUMBERS → (a : ℕ → Bool) → network_outputs (unswept kind form c) a ≡ circuit_outputs c a
+pub unswept-values : (kind : Kind) (c : CircuitValue) → IsCircuit c → All (FitsPlace c.equations) (order_of c) → numbers_needed kind c ≤ NUMBERS → (a : ℕ → Bool) → network_outputs (unswept kind c) a ≡ circuit_outputs c a
 unfolding circuit_outputs
-unswept-values kind form c laws circuit words few a =
-    let b : Building = raised kind form c in
-    let h = raised-sound kind form c laws circuit words few in
+unswept-values kind c circuit words few a =
+    let b : Building = raised kind c in
+    let h = raised-sound kind c circuit words few in
     with_outputs-values b.network (output_signals b.signals c.outputs) a
     ∙ ap (λ os. map (signal_value b.network a) (os ++ output_signals b.signals c.outputs)) h.sound.outputs
     ∙ ports-values c circuit (order_of c) b a c.outputs h (order-sound c circuit).driven

@@ -8,10 +8,7 @@ use Rattle.std.proofs.lemmas.Bool.Decides.{eqb_tells}
 use Rattle.std.proofs.lemmas.Option.{slice_get_within, get_or_from_slice_get}
 use Rattle.lnet_gates.specs.declared.signal.Signal.{Signal}
 use Rattle.lnet_gates.specs.declared.gate.Kind.{Kind}
-use Rattle.lnet_gates.specs.declared.normal.Normal.{Normal}
-use Rattle.lnet_gates.specs.Gates.{GateValue, flip}
-use Rattle.lnet_gates.specs.Natives.{IsNativeGate}
-use Rattle.lnet_gates.specs.NormalLaws.{NormalLaws}
+use Rattle.lnet_gates.specs.Gates.{flip}
 use Rattle.lnet_gates.specs.Operands.{constant, flipped}
 use Rattle.lnet_gates.specs.Lawful.OperandLemmas.{read-flipped}
 use Rattle.lnet_model.specs.Networks.{IsLive, live_count}
@@ -115,17 +112,17 @@ module _ (c : CircuitValue) (circuit : IsCircuit c) where
       λ i. read-value done b r a h (driven_done r.wire.0 (0, omega arith, refl)) i
       ∷ reads-value done b rs a h (λ v has. driven_done v (contains-next r.wire.0 v (map (λ (x : WireRef). x.wire.0) rs) has)) i
 
-module _ (c : CircuitValue) (circuit : IsCircuit c) (kind : Kind) (form : GateValue → Normal) (laws : NormalLaws (IsNativeGate kind) form) where
+module _ (c : CircuitValue) (circuit : IsCircuit c) (kind : Kind) where
   -- an equation after those of its operands
-  equation-raised : (done : List ℕ) (b : Building) (k : ℕ) (e : EquationValue) → IsRaised c done b → slice_get c.equations k ≡ Some e → AreDriven c.equations done (operands_at c.equations k) → FitsTable e.rule → live_count (with_equation kind form b e).network ≤ NUMBERS → IsRaised c (done ++ k ∷ []) (with_equation kind form b e)
+  equation-raised : (done : List ℕ) (b : Building) (k : ℕ) (e : EquationValue) → IsRaised c done b → slice_get c.equations k ≡ Some e → AreDriven c.equations done (operands_at c.equations k) → FitsTable e.rule → live_count (with_equation kind b e).network ≤ NUMBERS → IsRaised c (done ++ k ∷ []) (with_equation kind b e)
   equation-raised done b k e h stands driven_done word few =
       let ss = map (read_as b.signals) e.operands in
       let low = slice_get_within c.equations k e stands in
       let is = get_or_from_slice_get c.equations k e e stands in
       let arity : HasArity e.rule (length ss) = subst (HasArity e.rule) (sym (length-map e.operands (read_as b.signals))) (subst (λ (x : EquationValue). HasArity x.rule (length x.operands)) is (circuit.arities k e low)) in
       let ready : AreDriven c.equations done (operand_wires e) = subst (AreDriven c.equations done) (operands-stand c.equations k e stands) driven_done in
-      let p : Placed = rule_built kind form b.network e.rule ss in
-      let built = rule-stands kind form laws b.network e.rule ss arity word h.sound.stored (reads-live c circuit done b e.operands h) few in
+      let p : Placed = rule_built kind b.network e.rule ss in
+      let built = rule-stands kind b.network e.rule ss arity word h.sound.stored (reads-live c circuit done b e.operands h) few in
       record {
         sound = record {
           stored = built.stored;
@@ -150,20 +147,20 @@ module _ (c : CircuitValue) (circuit : IsCircuit c) (kind : Kind) (form : GateVa
       }
     where
       signal : Signal
-      signal = (rule_built kind form b.network e.rule (map (read_as b.signals) e.operands)).signal
+      signal = (rule_built kind b.network e.rule (map (read_as b.signals) e.operands)).signal
 
-      new-signal : (w : ℕ) (s : Signal) → (e.target == w) ≡ true → known (with_equation kind form b e).signals w ≡ Some s → signal ≡ s
+      new-signal : (w : ℕ) (s : Signal) → (e.target == w) ≡ true → known (with_equation kind b e).signals w ≡ Some s → signal ≡ s
       new-signal w s q found = let same : Some signal ≡ Some s = sym (ap (λ t. if t then Some signal else known b.signals w) q) ∙ found in cc
 
-      old-signal : (w : ℕ) (s : Signal) → (e.target == w) ≡ false → known (with_equation kind form b e).signals w ≡ Some s → known b.signals w ≡ Some s
+      old-signal : (w : ℕ) (s : Signal) → (e.target == w) ≡ false → known (with_equation kind b e).signals w ≡ Some s → known b.signals w ≡ Some s
       old-signal w s q found = sym (ap (λ t. if t then Some signal else known b.signals w) q) ∙ found
 
-      known-now : (j : ℕ) (f : EquationValue) → slice_get c.equations j ≡ Some f → is_among j (done ++ k ∷ []) ≡ true → IsSome (known (with_equation kind form b e).signals f.target)
-      known-now j f at there = elim (eqb_tells j k) as (λ _. IsSome (known (with_equation kind form b e).signals f.target)) [
+      known-now : (j : ℕ) (f : EquationValue) → slice_get c.equations j ≡ Some f → is_among j (done ++ k ∷ []) ≡ true → IsSome (known (with_equation kind b e).signals f.target)
+      known-now j f at there = elim (eqb_tells j k) as (λ _. IsSome (known (with_equation kind b e).signals f.target)) [
         | inl q ↦
             let same : Some e ≡ Some f = sym stands ∙ ap (slice_get c.equations) (sym q.1) ∙ at in
             let is : e ≡ f = cc in
-            subst (λ (x : EquationValue). IsSome (known (with_equation kind form b e).signals x.target)) is (subst (λ t. IsSome (if t then Some signal else known b.signals e.target)) (sym (own e.target)) refl)
+            subst (λ (x : EquationValue). IsSome (known (with_equation kind b e).signals x.target)) is (subst (λ t. IsSome (if t then Some signal else known b.signals e.target)) (sym (own e.target)) refl)
         | inr q ↦ some-if (e.target == f.target) signal (known b.signals f.target) (h.done_known j f (among-old j q.0 there) at)
       ]
         where
@@ -177,7 +174,7 @@ module _ (c : CircuitValue) (circuit : IsCircuit c) (kind : Kind) (form : GateVa
           among-old : (j : ℕ) → (j == k) ≡ false → is_among j (done ++ k ∷ []) ≡ true → is_among j done ≡ true
           among-old j ne there = or-false (is_among j done) (sym (list_any-append (λ i. j == i) done (k ∷ []) ∙ ap (λ t. is_among j done || (t || false)) ne) ∙ there)
 
-  found-raised : (done : List ℕ) (b : Building) (k : ℕ) (o : Option EquationValue) → slice_get c.equations k ≡ o → IsRaised c done b → AreDriven c.equations done (operands_at c.equations k) → FitsPlace c.equations k → live_count (with_found kind form b o).network ≤ NUMBERS → IsRaised c (done ++ k ∷ []) (with_found kind form b o)
+  found-raised : (done : List ℕ) (b : Building) (k : ℕ) (o : Option EquationValue) → slice_get c.equations k ≡ o → IsRaised c done b → AreDriven c.equations done (operands_at c.equations k) → FitsPlace c.equations k → live_count (with_found kind b o).network ≤ NUMBERS → IsRaised c (done ++ k ∷ []) (with_found kind b o)
   found-raised done b k (Some e) stands h driven_done word few = equation-raised done b k e h stands driven_done (word e stands) few
   found-raised done b k None stands h driven_done word few = record {
     sound = h.sound;
@@ -196,7 +193,7 @@ module _ (c : CircuitValue) (circuit : IsCircuit c) (kind : Kind) (form : GateVa
       among-old j ne there = or-false (is_among j done) (sym (list_any-append (λ i. j == i) done (k ∷ []) ∙ ap (λ t. is_among j done || (t || false)) ne) ∙ there)
 
   -- the equations at the places of an order of building
-  pub places-raised : (ks done : List ℕ) (b : Building) → IsRaised c done b → IsBuildOrder c.equations done ks → All (FitsPlace c.equations) ks → live_count (with_places kind form c.equations b ks).network ≤ NUMBERS → IsRaised c (done ++ ks) (with_places kind form c.equations b ks)
+  pub places-raised : (ks done : List ℕ) (b : Building) → IsRaised c done b → IsBuildOrder c.equations done ks → All (FitsPlace c.equations) ks → live_count (with_places kind c.equations b ks).network ≤ NUMBERS → IsRaised c (done ++ ks) (with_places kind c.equations b ks)
   unfolding with_places
   places-raised [] done b h order words few = subst (λ ds. IsRaised c ds b) (sym (nil done)) h
     where
@@ -204,7 +201,7 @@ module _ (c : CircuitValue) (circuit : IsCircuit c) (kind : Kind) (form : GateVa
       nil [] = refl
       nil (x ∷ xs) = ap (λ ys. x ∷ ys) (nil xs)
   places-raised (k ∷ ks) done b h order words few =
-      let more = places-grows kind form c.equations (with_found kind form b (slice_get c.equations k)) ks in
+      let more = places-grows kind c.equations (with_found kind b (slice_get c.equations k)) ks in
       let once = found-raised done b k (slice_get c.equations k) refl h order.0 (words 0 k (omega arith)) (omega arith) in
-      subst (λ ds. IsRaised c ds (with_places kind form c.equations (with_found kind form b (slice_get c.equations k)) ks)) (append_assoc done (k ∷ []) ks)
-      (places-raised ks (done ++ k ∷ []) (with_found kind form b (slice_get c.equations k)) once order.1 (λ j d low. words (suc j) d (omega arith)) few)
+      subst (λ ds. IsRaised c ds (with_places kind c.equations (with_found kind b (slice_get c.equations k)) ks)) (append_assoc done (k ∷ []) ks)
+      (places-raised ks (done ++ k ∷ []) (with_found kind b (slice_get c.equations k)) once order.1 (λ j d low. words (suc j) d (omega arith)) few)

@@ -8,8 +8,6 @@ use Rattle.std.proofs.lemmas.List.{drop_all}
 use Rattle.std.proofs.lemmas.Bool.Decides.{eqb_tells}
 use Rattle.lnet_gates.specs.declared.signal.Signal.{Signal}
 use Rattle.lnet_gates.specs.declared.gate.Kind.{Kind}
-use Rattle.lnet_gates.specs.declared.normal.Normal.{Normal}
-use Rattle.lnet_gates.specs.Gates.{GateValue}
 use Rattle.lnet_gates.specs.Operands.{constant, flipped}
 use Rattle.lnet_model.specs.Networks.{NetworkValue, Input, IsLive, entry_at, live_count}
 use Rattle.lnet_model.specs.Along.{IsWhole, nodes_read}
@@ -91,52 +89,49 @@ read-same N m b h r = ap (λ o. flipped r.complement (unwrap_or o (constant fals
 pub reads-same : (N : NetworkValue) (m : SignalMap) (b : Building) → Stand N m b → (rs : List WireRef) → map (read_in m) rs ≡ map (read_as b.signals) rs
 reads-same N m b h rs = map-same (read_in m) (read_as b.signals) rs (read-same N m b h)
 
-module _ (kind : Kind) (form : GateValue → Normal) where
-  rule-same : (N : NetworkValue) (m : SignalMap) (e : EquationValue) (ss : List Signal) → ss ≡ map (read_in m) e.operands → (b : Building) → Stand N m b → rule_built kind form N e.rule ss ≡ rule_built kind form b.network e.rule (map (read_as b.signals) e.operands)
+module _ (kind : Kind) where
+  rule-same : (N : NetworkValue) (m : SignalMap) (e : EquationValue) (ss : List Signal) → ss ≡ map (read_in m) e.operands → (b : Building) → Stand N m b → rule_built kind N e.rule ss ≡ rule_built kind b.network e.rule (map (read_as b.signals) e.operands)
   rule-same N m e ss operands b h =
-      ap (λ (M : NetworkValue). rule_built kind form M e.rule ss) h.network
-      ∙ ap (rule_built kind form b.network e.rule) (operands ∙ reads-same N m b h e.operands)
+      ap (λ (M : NetworkValue). rule_built kind M e.rule ss) h.network
+      ∙ ap (rule_built kind b.network e.rule) (operands ∙ reads-same N m b h e.operands)
 
   -- an equation is built
-  pub equation-built : (N M : NetworkValue) (m n : SignalMap) (e : EquationValue) (ss : List Signal) (s : Signal) → ss ≡ map (read_in m) e.operands → rule_built kind form N e.rule ss ≡ record { network = M; signal = s } → Updates nat_eq m n e.target (Some s) → (b : Building) → Stand N m b → Stand M n (with_equation kind form b e)
+  pub equation-built : (N M : NetworkValue) (m n : SignalMap) (e : EquationValue) (ss : List Signal) (s : Signal) → ss ≡ map (read_in m) e.operands → rule_built kind N e.rule ss ≡ record { network = M; signal = s } → Updates nat_eq m n e.target (Some s) → (b : Building) → Stand N m b → Stand M n (with_equation kind b e)
   equation-built N M m n e ss s operands built up b h =
       let same = sym (rule-same N m e ss operands b h) ∙ built in
-      stand-next N M m n b (with_equation kind form b e) e.target s h up (sym (ap (λ (p : Placed). p.network) same)) (ap (λ (p : Placed). (e.target, p.signal) ∷ b.signals) same)
+      stand-next N M m n b (with_equation kind b e) e.target s h up (sym (ap (λ (p : Placed). p.network) same)) (ap (λ (p : Placed). (e.target, p.signal) ∷ b.signals) same)
 
-  pub equation-full : (N : NetworkValue) (m : SignalMap) (e : EquationValue) (ss : List Signal) → ss ≡ map (read_in m) e.operands → NUMBERS < live_count (rule_built kind form N e.rule ss).network → (b : Building) → Stand N m b → NUMBERS < live_count (with_equation kind form b e).network
-  equation-full N m e ss operands past b h = let same = ap (λ (p : Placed). live_count p.network) (rule-same N m e ss operands b h) in omega arith
-
-  found-grows : (b : Building) (o : Option EquationValue) → live_count b.network ≤ live_count (with_found kind form b o).network
+  found-grows : (b : Building) (o : Option EquationValue) → live_count b.network ≤ live_count (with_found kind b o).network
   found-grows b None = let n = live_count b.network in omega arith
-  found-grows b (Some e) = rule-grows kind form b.network e.rule (map (read_as b.signals) e.operands)
+  found-grows b (Some e) = rule-grows kind b.network e.rule (map (read_as b.signals) e.operands)
 
-  pub places-grows : (es : List EquationValue) (b : Building) (ks : List ℕ) → live_count b.network ≤ live_count (with_places kind form es b ks).network
+  pub places-grows : (es : List EquationValue) (b : Building) (ks : List ℕ) → live_count b.network ≤ live_count (with_places kind es b ks).network
   unfolding with_places
   places-grows es b [] = let n = live_count b.network in omega arith
   places-grows es b (k ∷ ks) =
       let a = found-grows b (slice_get es k) in
-      let r = places-grows es (with_found kind form b (slice_get es k)) ks in
+      let r = places-grows es (with_found kind b (slice_get es k)) ks in
       omega arith
 
   -- the places from i on
-  module _ (es : List Equation) (order : List ℕ) (i : ℕ) (low : i < length order) (e : Equation) (here : get_or order i 0 < length es) (is : e ≡ get_or es (get_or order i 0) e) (x all : Building) (so_far : with_places kind form (equation_views es) x (drop i order) ≡ all) where
-    pub places-next : with_places kind form (equation_views es) (with_equation kind form x (equation_view e)) (drop (i + 1) order) ≡ all
+  module _ (es : List Equation) (order : List ℕ) (i : ℕ) (low : i < length order) (e : Equation) (here : get_or order i 0 < length es) (is : e ≡ get_or es (get_or order i 0) e) (x all : Building) (so_far : with_places kind (equation_views es) x (drop i order) ≡ all) where
+    pub places-next : with_places kind (equation_views es) (with_equation kind x (equation_view e)) (drop (i + 1) order) ≡ all
     unfolding with_places
     places-next =
         let more : suc i ≡ i + 1 = omega arith in
-        sym (ap (with_places kind form (equation_views es) x) (drop-cons order i 0 low ∙ ap (λ j. get_or order i 0 ∷ drop j order) more)
-        ∙ ap (λ o. with_places kind form (equation_views es) (with_found kind form x o) (drop (i + 1) order)) (view-get es (get_or order i 0) e here is))
+        sym (ap (with_places kind (equation_views es) x) (drop-cons order i 0 low ∙ ap (λ j. get_or order i 0 ∷ drop j order) more)
+        ∙ ap (λ o. with_places kind (equation_views es) (with_found kind x o) (drop (i + 1) order)) (view-get es (get_or order i 0) e here is))
         ∙ so_far
 
-    pub places-full : NUMBERS < live_count (with_equation kind form x (equation_view e)).network → NUMBERS < live_count all.network
+    pub places-full : NUMBERS < live_count (with_equation kind x (equation_view e)).network → NUMBERS < live_count all.network
     places-full past =
-        let more = places-grows (equation_views es) (with_equation kind form x (equation_view e)) (drop (i + 1) order) in
+        let more = places-grows (equation_views es) (with_equation kind x (equation_view e)) (drop (i + 1) order) in
         let same = ap (λ (b : Building). live_count b.network) places-next in
         omega arith
 
-  pub places-end : (es : List EquationValue) (order : List ℕ) (i : ℕ) → length order ≤ i → (x all : Building) → with_places kind form es x (drop i order) ≡ all → all ≡ x
+  pub places-end : (es : List EquationValue) (order : List ℕ) (i : ℕ) → length order ≤ i → (x all : Building) → with_places kind es x (drop i order) ≡ all → all ≡ x
   unfolding with_places
-  places-end es order i past x all so_far = sym so_far ∙ ap (with_places kind form es x) (drop_all i order past)
+  places-end es order i past x all so_far = sym so_far ∙ ap (with_places kind es x) (drop_all i order past)
 
 -- ---- ports
 

@@ -3,8 +3,6 @@ use Rattle.std.specs.Prelude.{ℕ, ◌==◌, false, List, [], ◌∷◌, map, sl
 use Rattle.std.specs.Option.{unwrap_or}
 use Rattle.lnet_gates.specs.declared.signal.Signal.{Signal}
 use Rattle.lnet_gates.specs.declared.gate.Kind.{Kind}
-use Rattle.lnet_gates.specs.declared.normal.Normal.{Normal}
-use Rattle.lnet_gates.specs.Gates.{GateValue}
 use Rattle.lnet_gates.specs.Operands.{constant, flipped}
 use Rattle.lnet_model.specs.Networks.{NetworkValue, live_count}
 use Rattle.lnet_store.specs.StoreValues.{first_network, with_input, with_new_output}
@@ -52,23 +50,23 @@ first_building kind = record { network = of_kind kind first_network; signals = [
 -- ---- equations
 
 -- an equation over the signals of its operands
-abbrev pub with_equation : Kind → (GateValue → Normal) → Building → EquationValue → Building
-with_equation kind form b e =
-    let p : Placed = rule_built kind form b.network e.rule (map (read_as b.signals) e.operands) in
+abbrev pub with_equation : Kind → Building → EquationValue → Building
+with_equation kind b e =
+    let p : Placed = rule_built kind b.network e.rule (map (read_as b.signals) e.operands) in
     record { network = p.network; signals = (e.target, p.signal) ∷ b.signals }
 
-abbrev pub with_found : Kind → (GateValue → Normal) → Building → Option EquationValue → Building
-with_found kind form b None = b
-with_found kind form b (Some e) = with_equation kind form b e
+abbrev pub with_found : Kind → Building → Option EquationValue → Building
+with_found kind b None = b
+with_found kind b (Some e) = with_equation kind b e
 
 -- the equations at these places, one after another
-unfoldable pub with_places : Kind → (GateValue → Normal) → List EquationValue → Building → List ℕ → Building
-with_places kind form es b [] = b
-with_places kind form es b (k ∷ ks) = with_places kind form es (with_found kind form b (slice_get es k)) ks
+unfoldable pub with_places : Kind → List EquationValue → Building → List ℕ → Building
+with_places kind es b [] = b
+with_places kind es b (k ∷ ks) = with_places kind es (with_found kind b (slice_get es k)) ks
 
 -- the inputs, and then the equations that the outputs need, each after those of its operands
-unfoldable pub raised : Kind → (GateValue → Normal) → CircuitValue → Building
-raised kind form c = with_places kind form c.equations (with_ports (first_building kind) c.inputs) (order_of c)
+unfoldable pub raised : Kind → CircuitValue → Building
+raised kind c = with_places kind c.equations (with_ports (first_building kind) c.inputs) (order_of c)
 
 -- ---- outputs
 
@@ -80,16 +78,16 @@ abbrev pub output_signals : List (ℕ × Signal) → List OutputPort → List Si
 output_signals ks ps = map (λ (p : OutputPort). read_as ks p.source) ps
 
 -- with the outputs, and before it is swept
-abbrev pub unswept : Kind → (GateValue → Normal) → CircuitValue → NetworkValue
-unswept kind form c = with_outputs (raised kind form c).network (output_signals (raised kind form c).signals c.outputs)
+abbrev pub unswept : Kind → CircuitValue → NetworkValue
+unswept kind c = with_outputs (raised kind c).network (output_signals (raised kind c).signals c.outputs)
 
 -- the network of a circuit: that one without the gates that no output reaches
-abbrev pub IsBuilt : Kind → (GateValue → Normal) → CircuitValue → NetworkValue → Type 0
-IsBuilt kind form c N = IsSwept (unswept kind form c) N
+abbrev pub IsBuilt : Kind → CircuitValue → NetworkValue → Type 0
+IsBuilt kind c N = IsSwept (unswept kind c) N
 
 -- the most numbers that are live at a moment of the building
-abbrev pub numbers_needed : Kind → (GateValue → Normal) → CircuitValue → ℕ
-numbers_needed kind form c = live_count (raised kind form c).network
+abbrev pub numbers_needed : Kind → CircuitValue → ℕ
+numbers_needed kind c = live_count (raised kind c).network
 
 -- the names of the ports
 abbrev pub names_of : CircuitValue → NamesValue

@@ -23,12 +23,9 @@ use lnet_gates::Gates;
 use lnet_names::Names;
 use lnet_network::Network;
 use lnet_order::order;
-use lnet_store::AddError;
+use lnet_store::{AddError, NUMBER_LIMIT};
 use std::alloc::Global;
 use std::collections::HashMap;
-
-/// How many numbers a network can have.
-const LIMIT: usize = 1048576;
 
 /// Builds the network of a circuit in a network of node 0 alone without views, and tells the names of its inputs and outputs.
 ///
@@ -50,17 +47,17 @@ pub fn build<G: Gates>(
 ) -> Result<Names, AddError>
     requires first { net.old.core.network ≡ of_kind G.KIND first_network }
     requires none { IsBare net.old.watch }
-    ensures network { OnOk result (IsBuilt G.KIND G.form circuit.now net.new.core.network) }
+    ensures network { OnOk result (IsBuilt G.KIND circuit.now net.new.core.network) }
     ensures names { IfOk result (λ names. names ≡ port_names circuit.now) }
     ensures inputs { OnOk result (length net.new.core.network.inputs ≡ length circuit.now.inputs) }
     ensures outputs_count { OnOk result (length net.new.core.network.outputs ≡ length circuit.now.outputs) }
     ensures outputs { OnOk result ((a : ℕ → Bool) → network_outputs net.new.core.network a ≡ circuit_outputs circuit.now a) }
     ensures acyclic { OnOk result (Acyclic net.new.core.network) }
-    ensures strashed { OnOk result (IsStrashed G.KIND G.form net.new.core.network) }
+    ensures strashed { OnOk result (IsStrashed G.KIND net.new.core.network) }
     ensures tidy { OnOk result ((n : ℕ) → IsGateAt net.new.core.network n → 0 < references net.new.core.network n) }
     ensures views { OnOk result (IsBare net.new.watch) }
-    ensures fits { OnOk result (numbers_needed G.KIND G.form circuit.now ≤ NUMBERS) }
-    ensures full { result ≡ Err AddError.Full → NUMBERS < numbers_needed G.KIND G.form circuit.now }
+    ensures fits { OnOk result (numbers_needed G.KIND circuit.now ≤ NUMBERS) }
+    ensures full { result ≡ Err AddError.Full → NUMBERS < numbers_needed G.KIND circuit.now }
 {
     let _circuit = circuit.equations();
     let names = match names_of(alloc, circuit) {
@@ -77,17 +74,17 @@ pub fn build<G: Gates>(
 fn raise<G: Gates>(alloc: Global, net: &mut Network<G>, circuit: &Circuit) -> Result<(), AddError>
     requires first { net.old.core.network ≡ of_kind G.KIND first_network }
     requires none { IsBare net.old.watch }
-    ensures network { OnOk result (net.new.core.network ≡ unswept G.KIND G.form circuit.now) }
+    ensures network { OnOk result (net.new.core.network ≡ unswept G.KIND circuit.now) }
     ensures stored { OnOk result (IsStored net.new.core.network) }
     ensures words { OnOk result (All (FitsPlace circuit.now.equations) (order_of circuit.now)) }
     ensures none { OnOk result (IsBare net.new.watch) }
-    ensures fits { OnOk result (numbers_needed G.KIND G.form circuit.now ≤ NUMBERS) }
-    ensures full { result ≡ Err AddError.Full → NUMBERS < numbers_needed G.KIND G.form circuit.now }
+    ensures fits { OnOk result (numbers_needed G.KIND circuit.now ≤ NUMBERS) }
+    ensures full { result ≡ Err AddError.Full → NUMBERS < numbers_needed G.KIND circuit.now }
 {
     let ports = circuit.inputs();
     let equations = circuit.equations();
     let outputs = circuit.outputs();
-    if ports.len() >= LIMIT {
+    if ports.len() >= NUMBER_LIMIT as usize {
         return Err(AddError::Full);
     }
     let places = match order(alloc, circuit) {

@@ -31,9 +31,9 @@ pub(crate) fn build_equations<G: Gates>(
     requires within { All (λ k. k < length equations.now) order.now }
     requires live { AreSignalsLive net.old.core.network signals.old }
     requires none { IsBare net.old.watch }
-    ensures built { OnOk result ((b : Building) → Stand net.old.core.network signals.old b → Stand net.new.core.network signals.new (with_places G.KIND G.form (equation_views equations.now) b order.now)) }
+    ensures built { OnOk result ((b : Building) → Stand net.old.core.network signals.old b → Stand net.new.core.network signals.new (with_places G.KIND (equation_views equations.now) b order.now)) }
     ensures live { OnOk result (AreSignalsLive net.new.core.network signals.new) }
-    ensures full { result ≡ Err AddError.Full → (b : Building) → Stand net.old.core.network signals.old b → NUMBERS < live_count (with_places G.KIND G.form (equation_views equations.now) b order.now).network }
+    ensures full { result ≡ Err AddError.Full → (b : Building) → Stand net.old.core.network signals.old b → NUMBERS < live_count (with_places G.KIND (equation_views equations.now) b order.now).network }
     ensures none { IsBare net.new.watch }
     ensures words { OnOk result (All (FitsPlace (equation_views equations.now)) order.now) }
 {
@@ -53,9 +53,9 @@ fn build_equation<G: Gates>(
     requires arity { HasArity equation.now.rule (length equation.now.operands.items) }
     requires live { AreSignalsLive net.old.core.network signals.old }
     requires none { IsBare net.old.watch }
-    ensures built { OnOk result ((b : Building) → Stand net.old.core.network signals.old b → Stand net.new.core.network signals.new (with_equation G.KIND G.form b (equation_view equation.now))) }
+    ensures built { OnOk result ((b : Building) → Stand net.old.core.network signals.old b → Stand net.new.core.network signals.new (with_equation G.KIND b (equation_view equation.now))) }
     ensures live { OnOk result (AreSignalsLive net.new.core.network signals.new) }
-    ensures full { result ≡ Err AddError.Full → (b : Building) → Stand net.old.core.network signals.old b → NUMBERS < live_count (with_equation G.KIND G.form b (equation_view equation.now)).network }
+    ensures full { result ≡ Err AddError.Full → (b : Building) → Stand net.old.core.network signals.old b → NUMBERS < live_count (with_equation G.KIND b (equation_view equation.now)).network }
     ensures none { IsBare net.new.watch }
     ensures word { OnOk result (FitsTable equation.now.rule) }
 {

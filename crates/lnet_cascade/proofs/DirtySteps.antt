@@ -4,13 +4,14 @@ use Rattle.std.specs.Prelude.{slice_set}
 use Rattle.std.proofs.lemmas.Bool.Decides.{eqb_tells}
 use Rattle.lnet_gates.specs.declared.signal.Signal.{Signal}
 use Rattle.lnet_gates.specs.declared.gate.Kind.{Kind}
-use Rattle.lnet_gates.specs.declared.normal.Normal.{Normal}
 use Rattle.lnet_gates.specs.declared.normal.Normal.TheVariants.{Is, Gate}
 use Rattle.lnet_gates.specs.Gates.{GateValue, KeyValue, flip}
 use Rattle.lnet_gates.specs.Operands.{flipped}
 use Rattle.lnet_gates.specs.Natives.{IsNativeGate}
 use Rattle.lnet_gates.specs.NormalForms.{carried}
-use Rattle.lnet_gates.specs.NormalLaws.{NormalLaws, AndsKeepPhase, IsNativeForm, keyed_gate}
+use Rattle.lnet_gates.specs.NormalLaws.{IsNativeForm, keyed_gate}
+use Rattle.lnet_gates.specs.Forms.{form_of}
+use Rattle.lnet_gates.specs.Lawful.KindLaws.{kind_laws}
 use Rattle.lnet_model.specs.Networks.{IsGate, NetworkValue, entry_at, IsLive}
 use Rattle.lnet_model.specs.Along.{In, Depends, Reaches, fanin_nodes, nodes_read}
 use Rattle.lnet_model.specs.Changes.{GateAt, IsGateAt, AreLive, with_entry}
@@ -47,7 +48,7 @@ flip-again true false = refl
 flip-again false true = refl
 flip-again false false = refl
 
-module _ (kind : Kind) (form : GateValue → Normal) (laws : NormalLaws (IsNativeGate kind) form) (C : NetworkValue) (stored : IsStored C) (bs : List Bool) (begun : IsBegun kind form C bs) (x : ℕ) (dirty : marks_of bs x ≡ true) (gx : GateValue) (at : GateAt C x gx) where
+module _ (kind : Kind) (C : NetworkValue) (stored : IsStored C) (bs : List Bool) (begun : IsBegun kind C bs) (x : ℕ) (dirty : marks_of bs x ≡ true) (gx : GateValue) (at : GateAt C x gx) where
   pub dirty-native : IsNativeGate kind gx
   dirty-native = begun.4.1.native x gx at
 
@@ -57,10 +58,10 @@ module _ (kind : Kind) (form : GateValue → Normal) (laws : NormalLaws (IsNativ
 
   -- ---- merged into t
 
-  pub merged-free : (t : Signal) → t.node.0 ≢ x → CanMerge form C gx t → Depends C t x → ⊥
-  merged-free t ne joins = merge-free kind form laws C stored.dag.acyclic stored.whole x gx at dirty-native t ne joins
+  pub merged-free : (t : Signal) → t.node.0 ≢ x → CanMerge kind C gx t → Depends C t x → ⊥
+  merged-free t ne joins = merge-free kind C stored.dag.acyclic stored.whole x gx at dirty-native t ne joins
 
-  module _ (t : Signal) (ne : t.node.0 ≢ x) (live : IsLive C t.node.0) (joins : CanMerge form C gx t) (D : NetworkValue) (is : D ≡ replaced C x t) (cs : List Bool) (more : MarkedMore (λ n. In x (fanin_nodes (entry_at C n))) (slice_set bs x false) cs) where
+  module _ (t : Signal) (ne : t.node.0 ≢ x) (live : IsLive C t.node.0) (joins : CanMerge kind C gx t) (D : NetworkValue) (is : D ≡ replaced C x t) (cs : List Bool) (more : MarkedMore (λ n. In x (fanin_nodes (entry_at C n))) (slice_set bs x false) cs) where
     later : IsDirtyAfter C x (marks_of bs) (marks_of cs)
     later = record {
       only = λ n i. elim (more.only n i) as (λ _. (marks_of bs n ≡ true) ⊎ In x (fanin_nodes (entry_at C n))) [ inl h ↦ inl (cleared bs x n dirty h).0 | inr p ↦ inr p ];
@@ -68,11 +69,11 @@ module _ (kind : Kind) (form : GateValue → Normal) (laws : NormalLaws (IsNativ
       parents = more.those;
     }
 
-    pub merged-goes_on : GoesOn kind form C bs D cs
+    pub merged-goes_on : GoesOn kind C bs D cs
     merged-goes_on N o s can (rep, I) = (
       λ n. redirected x t (rep n),
-      subst (λ D. IsCascading kind form N o s D (λ n. redirected x t (rep n)) (marks_of cs)) (sym is)
-          (cascade-merge kind form laws N o s can.gate.0 can.gate.1 can.strashed.native C rep (marks_of bs) I x gx at dirty t (marks_of cs) ne live joins later),
+      subst (λ D. IsCascading kind N o s D (λ n. redirected x t (rep n)) (marks_of cs)) (sym is)
+          (cascade-merge kind N o s can.gate.0 can.gate.1 can.strashed.native C rep (marks_of bs) I x gx at dirty t (marks_of cs) ne live joins later),
     )
 
     pub merged-gates : OnlyGates C bs → OnlyGates D cs
@@ -83,22 +84,22 @@ module _ (kind : Kind) (form : GateValue → Normal) (laws : NormalLaws (IsNativ
 
   -- ---- set to its normal form
 
-  module _ (k : KeyValue) (phase : Bool) (is_key : form gx ≡ Gate k phase) where
+  module _ (k : KeyValue) (phase : Bool) (is_key : form_of kind gx ≡ Gate k phase) where
     pub settled-native : IsNativeGate kind (keyed_gate k phase)
-    settled-native = subst (IsNativeForm (IsNativeGate kind)) is_key (laws.native gx dirty-native)
+    settled-native = subst (IsNativeForm (IsNativeGate kind)) is_key ((kind_laws kind).native gx dirty-native)
 
     pub settled-live : AreLive C (nodes_read k.fanins)
-    settled-live m i = named-live m (form-key kind form laws gx k phase m dirty-native is_key i)
+    settled-live m i = named-live m (form-key kind gx k phase m dirty-native is_key i)
 
     pub settled-free : (m : ℕ) → In m (nodes_read k.fanins) → Reaches C m x → ⊥
-    settled-free m i = no_way_back kind form laws C stored.dag.acyclic stored.whole x gx at dirty-native m (form-key kind form laws gx k phase m dirty-native is_key i)
+    settled-free m i = no_way_back kind C stored.dag.acyclic stored.whole x gx at dirty-native m (form-key kind gx k phase m dirty-native is_key i)
 
     module _ (D : NetworkValue) (is : D ≡ with_entry C x (IsGate (keyed_gate k phase))) where
-      pub settled-goes_on : AndsKeepPhase (IsNativeGate kind) form → IsUnusedKey C (marks_of bs) k → GoesOn kind form C bs D (slice_set bs x false)
-      settled-goes_on and_law unused N o s can (rep, I) = (
+      pub settled-goes_on : IsUnusedKey C (marks_of bs) k → GoesOn kind C bs D (slice_set bs x false)
+      settled-goes_on unused N o s can (rep, I) = (
         rep,
-        subst (λ D. IsCascading kind form N o s D rep (marks_of (slice_set bs x false))) (sym is)
-            (cascade-settle kind form laws and_law N o s C rep (marks_of bs) I x gx at dirty k phase (marks_of (slice_set bs x false)) is_key unused (record {
+        subst (λ D. IsCascading kind N o s D rep (marks_of (slice_set bs x false))) (sym is)
+            (cascade-settle kind N o s C rep (marks_of bs) I x gx at dirty k phase (marks_of (slice_set bs x false)) is_key unused (record {
               only = λ n i. (cleared bs x n dirty i).0;
               before = λ n i apart. still bs x n i apart;
             })),
@@ -119,7 +120,7 @@ module _ (kind : Kind) (form : GateValue → Normal) (laws : NormalLaws (IsNativ
       pub holder-apart : s.node.0 ≢ x
       holder-apart e = not-both (marks_of bs x) (subst (λ z. marks_of bs z ≡ false) e holder.clean) dirty
 
-      pub holder-merges : CanMerge form C gx (flipped phase s)
+      pub holder-merges : CanMerge kind C gx (flipped phase s)
       holder-merges =
           let own = begun.4.1.own_form s.node.0 holder.gate holder.at holder.clean in
           let phases : flip (flip phase s.complement) holder.gate.phase ≡ phase = ap (flip (flip phase s.complement)) holder.phase ∙ flip-again phase s.complement in
@@ -132,11 +133,11 @@ module _ (kind : Kind) (form : GateValue → Normal) (laws : NormalLaws (IsNativ
 
   -- ---- where its form is a signal
 
-  pub signal-live : (t : Signal) → form gx ≡ Is t → IsLive C t.node.0
-  signal-live t is = named-live t.node.0 (form-signal kind form laws gx t dirty-native is)
+  pub signal-live : (t : Signal) → form_of kind gx ≡ Is t → IsLive C t.node.0
+  signal-live t is = named-live t.node.0 (form-signal kind gx t dirty-native is)
 
-  pub signal-apart : (t : Signal) → form gx ≡ Is t → t.node.0 ≢ x
-  signal-apart t is e = elim (form-signal kind form laws gx t dirty-native is) as (λ _. ⊥) [
+  pub signal-apart : (t : Signal) → form_of kind gx ≡ Is t → t.node.0 ≢ x
+  signal-apart t is e = elim (form-signal kind gx t dirty-native is) as (λ _. ⊥) [
     | inl j ↦ no_self C x stored (subst (λ z. In z (fanin_nodes (entry_at C x))) e (gate-fanin C x t.node.0 gx at j))
     | inr z ↦ gate-apart-zero C x gx at stored.whole (sym e ∙ z)
   ]

@@ -37,19 +37,6 @@ below-more N D M x t i b h = record {
 dec : (n i : ℕ) → (n < i) ⊎ (i ≤ n)
 dec n i = elim (dec_lt n i) [ Prim.yes l ↦ inl l | Prim.no far ↦ inr (omega arith) ]
 
-some_redirected : (x : ℕ) (t : Signal) (o : Option Entry) → IsSome o → IsSome (option_map (redirected_entry x t) o)
-some_redirected x t None h = h
-some_redirected x t (Some e) h = refl
-
-pub below-live : (N D : NetworkValue) (x : ℕ) (t : Signal) (i n : ℕ) → RedirectedBelow N x t i D → IsLive N n → IsLive D n
-below-live N D x t i n b live = elim (dec n i) as (λ _. IsLive D n) [
-  | inl lt ↦ subst IsSome (sym (b.below n lt)) (some_redirected x t (entry_at N n) live)
-  | inr le ↦ subst IsSome (sym (b.above n le)) live
-]
-
-pub marks-none : (P : ℕ → Type 0) (bs : List Bool) → MarkedMore (λ n. (n < 0) × P n) bs bs
-marks-none P bs = record { len = refl; only = λ n h. inl h; before = λ n h. h; those = λ n p. (let lt = p.0 in absurd (omega arith)) }
-
 pub marks-more : (P : ℕ → Type 0) (i : ℕ) (Q : ℕ → Type 0) (first old new : List Bool) → MarkedMore (λ n. (n < i) × P n) first old → MarkedMore Q old new → ((n : ℕ) → Q n → (n ≡ i) × P n) → (P i → Q i) → MarkedMore (λ n. (n < i + 1) × P n) first new
 marks-more P i Q first old new a b down up = record {
   len = b.len ∙ a.len;
@@ -62,15 +49,6 @@ marks-more P i Q first old new a b down up = record {
     | inl e ↦ b.those n (subst Q (sym e.1) (up (subst P e.1 p.1)))
     | inr e ↦ (let ne = e.1 in let l = p.0 in let lt : n < i = omega arith in b.before n (a.those n (lt, p.1)))
   ];
-}
-
--- where P holds below i alone, its marks are all
-pub marks-all : (P : ℕ → Type 0) (i : ℕ) (old new : List Bool) → ((n : ℕ) → P n → n < i) → MarkedMore (λ n. (n < i) × P n) old new → MarkedMore P old new
-marks-all P i old new small m = record {
-  len = m.len;
-  only = λ n h. elim (m.only n h) as (λ _. (marks_of old n ≡ true) ⊎ P n) [ inl o ↦ inl o | inr p ↦ inr p.1 ];
-  before = m.before;
-  those = λ n p. m.those n (small n p, p);
 }
 
 -- ---- all of a replacement

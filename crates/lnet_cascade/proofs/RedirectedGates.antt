@@ -1,12 +1,10 @@
 -- One gate reads t in place of x.
-use Rattle.std.proofs.Common.{◌≡◌, ◌≢◌, ℕ, ◌<◌, ◌⊎◌, [], ◌∷◌, map, length, IsSome, Option, None, Some, refl, sym, ap, subst, ◌∙◌, inl, inr}
+use Rattle.std.proofs.Common.{◌≡◌, ◌≢◌, ℕ, ◌<◌, ◌⊎◌, [], ◌∷◌, map, IsSome, Option, None, Some, refl, sym, ap, subst, ◌∙◌, inl, inr}
 use Rattle.std.specs.Prelude.{option_map}
-use Rattle.std.proofs.lemmas.List.{length-map}
 use Rattle.std.proofs.lemmas.Bool.Decides.{eqb_tells}
 use Rattle.lnet_gates.specs.declared.signal.Signal.{Signal}
 use Rattle.lnet_gates.specs.Gates.{GateValue}
-use Rattle.lnet_gates.specs.Plans.{Takes}
-use Rattle.lnet_model.specs.Networks.{Entry, Constant, Input, IsGate, NetworkValue, entry_at, gate_in, IsLive, live_count}
+use Rattle.lnet_model.specs.Networks.{Entry, Constant, Input, IsGate, NetworkValue, entry_at, IsLive, live_count}
 use Rattle.lnet_model.specs.Along.{In, Depends, Reaches, fanin_nodes, nodes_read}
 use Rattle.lnet_model.specs.Changes.{GateAt, AreLive, with_entry}
 use Rattle.lnet_model.specs.Dags.{IsStored, AreBelow}
@@ -38,9 +36,6 @@ module _ (N : NetworkValue) (i x : ℕ) (t : Signal) (g : GateValue) (at : GateA
 
   live_x : IsLive N x
   live_x = stored.whole.closed i x (gate-fanin N i x g at names)
-
-  pub redirected-arity : Takes g.op (length (map (redirected x t) g.fanins))
-  redirected-arity = subst (Takes g.op) (sym (length-map g.fanins (redirected x t))) (stored.dag.arities i g at)
 
   pub redirected-live : AreLive N (nodes_read (map (redirected x t) g.fanins))
   redirected-live m j = elim (in_redirected x m t g.fanins j) as (λ _. IsLive N m) [
@@ -90,13 +85,6 @@ unread x t None h = refl
 unread x t (Some Constant) h = refl
 unread x t (Some (Input k)) h = refl
 unread x t (Some (IsGate g)) h = ap (λ ss. Some (IsGate (record { op = g.op; phase = g.phase; fanins = ss }))) (sym (map-apart x t g.fanins h))
-
--- what isn't a gate reads nothing
-pub no_gate-unread : (x : ℕ) (e : Option Entry) → gate_in e ≡ None → In x (fanin_nodes e) → ⊥
-no_gate-unread x None none j = j
-no_gate-unread x (Some Constant) none j = j
-no_gate-unread x (Some (Input k)) none j = j
-no_gate-unread x (Some (IsGate g)) none j = cc
 
 pub redirected-same : (N : NetworkValue) (i x : ℕ) (t : Signal) → (In x (fanin_nodes (entry_at N i)) → ⊥) → (Depends N t x → ⊥) → RedirectedAt N x t i N
 redirected-same N i x t none free = record {

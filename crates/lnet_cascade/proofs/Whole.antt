@@ -3,10 +3,6 @@ use Rattle.std.proofs.Common.{◌≡◌, ℕ, ◌<◌, Bool, true, false, ◌⊎
 use Rattle.std.proofs.lemmas.Bool.Decides.{eqb_tells}
 use Rattle.lnet_gates.specs.declared.signal.Signal.{Signal}
 use Rattle.lnet_gates.specs.declared.gate.Kind.{Kind}
-use Rattle.lnet_gates.specs.declared.normal.Normal.{Normal}
-use Rattle.lnet_gates.specs.Gates.{GateValue}
-use Rattle.lnet_gates.specs.Natives.{IsNativeGate}
-use Rattle.lnet_gates.specs.NormalLaws.{NormalLaws}
 use Rattle.lnet_model.specs.Networks.{Constant, Input, IsGate, NetworkValue, entry_at, IsLive}
 use Rattle.lnet_model.specs.Along.{In, fanin_nodes}
 use Rattle.lnet_model.specs.Changes.{IsGateAt}
@@ -25,15 +21,15 @@ use Rattle.lnet_cascade.specs.Losing.{AreNoted, IsLost, Drops}
 use Rattle.lnet_cascade.proofs.DirtySteps.{no_self}
 use Rattle.lnet_cascade.proofs.Named.{referenced-named}
 
-module _ (kind : Kind) (form : GateValue → Normal) (laws : NormalLaws (IsNativeGate kind) form) (N : NetworkValue) (o : ℕ) (s : Signal) (can : CanSubstitute kind form N o s) (stored : IsStored N) (bs : List Bool) (clean : (n : ℕ) → marks_of bs n ≡ false) (D : NetworkValue) (is : D ≡ replaced N o s) (cs : List Bool) (more : MarkedMore (λ n. In o (fanin_nodes (entry_at N n))) bs cs) where
+module _ (kind : Kind) (N : NetworkValue) (o : ℕ) (s : Signal) (can : CanSubstitute kind N o s) (stored : IsStored N) (bs : List Bool) (clean : (n : ℕ) → marks_of bs n ≡ false) (D : NetworkValue) (is : D ≡ replaced N o s) (cs : List Bool) (more : MarkedMore (λ n. In o (fanin_nodes (entry_at N n))) bs cs) where
   parent : (n : ℕ) → marks_of cs n ≡ true → In o (fanin_nodes (entry_at N n))
   parent n h = elim (more.only n h) as (λ _. In o (fanin_nodes (entry_at N n))) [ inl k ↦ absurd (not-both (marks_of bs n) (clean n) k) | inr p ↦ p ]
 
-  pub begins : Cascading kind form N o s D cs
+  pub begins : Cascading kind N o s D cs
   begins = (
     signal_of,
-    subst (λ D. IsCascading kind form N o s D signal_of (marks_of cs)) (sym is)
-        (cascade-begins kind form laws N o s can.gate.0 can.gate.1 can.acyclic can.strashed can.whole can.free can.live (marks_of cs) parent more.those),
+    subst (λ D. IsCascading kind N o s D signal_of (marks_of cs)) (sym is)
+        (cascade-begins kind N o s can.gate.0 can.gate.1 can.acyclic can.strashed can.whole can.free can.live (marks_of cs) parent more.those),
   )
 
   pub begins-gates : OnlyGates D cs
@@ -42,8 +38,8 @@ module _ (kind : Kind) (form : GateValue → Normal) (laws : NormalLaws (IsNativ
       let g = parent-gate N n o p in
       subst (λ D. IsGateAt D n) (sym is) (_, gate-after N o s can.gate.0 can.gate.1 n g.0 g.1 (λ q. no_self N o stored (subst (λ z. In o (fanin_nodes (entry_at N z))) q p)))
 
-  module _ (C : NetworkValue) (ds : List Bool) (goes_on : GoesOn kind form D cs C ds) (end : ℕ) (within : AreBelow N end) where
-    last : Cascading kind form N o s C ds
+  module _ (C : NetworkValue) (ds : List Bool) (goes_on : GoesOn kind D cs C ds) (end : ℕ) (within : AreBelow N end) where
+    last : Cascading kind N o s C ds
     last = goes_on N o s can begins
 
     -- what is live at the end was live at the beginning
@@ -58,8 +54,8 @@ module _ (kind : Kind) (form : GateValue → Normal) (laws : NormalLaws (IsNativ
     ] refl live)
 
     module _ (done : (n : ℕ) → marks_of ds n ≡ false) (had : List Bool) (noted : AreNoted N end had) (Q : NetworkValue) (drops : Drops end had C Q) (none : (n : ℕ) → IsLost Q had n → ⊥) where
-      merged : IsMerged kind form N o s C last.0
-      merged = cascade-ends kind form N o s C last.0 (marks_of ds) last.1 done
+      merged : IsMerged kind N o s C last.0
+      merged = cascade-ends kind N o s C last.0 (marks_of ds) last.1 done
 
       named_or_not : (n : ℕ) → IsGateAt Q n → IsNamed Q n ⊎ (IsNamed N n → ⊥)
       named_or_not n gate =
@@ -73,7 +69,7 @@ module _ (kind : Kind) (form : GateValue → Normal) (laws : NormalLaws (IsNativ
             | false ↦ λ e. inr (λ r. not-both (marks_of had n) e ((noted n low).1 r))
           ] refl
 
-      pub substitutes : Substitutes kind form N o s Q
+      pub substitutes : Substitutes kind N o s Q
       substitutes = record {
         merged = C;
         rep = last.0;

@@ -2,7 +2,6 @@
 use Rattle.std.specs.Prelude.{◌≡◌, ℕ, suc, ◌+◌, ◌*◌, Bool, false, List, length}
 use Rattle.lnet_gates.specs.declared.signal.Signal.{Signal}
 use Rattle.lnet_gates.specs.declared.gate.Kind.{Kind}
-use Rattle.lnet_gates.specs.declared.normal.Normal.{Normal}
 use Rattle.lnet_gates.specs.Gates.{GateValue, KeyValue}
 use Rattle.lnet_model.specs.Networks.{NetworkValue, live_count}
 use Rattle.lnet_model.specs.Changes.{GateAt}
@@ -12,16 +11,16 @@ use Rattle.lnet_substitution.specs.Cascades.{IsCascading}
 use Rattle.lnet_cascade.specs.Marks.{marks_of, marked_count}
 
 -- C stands in the middle of the cascade of N, o and s, where the dirty gates are marked
-abbrev pub Cascading : Kind → (GateValue → Normal) → NetworkValue → ℕ → Signal → NetworkValue → List Bool → Type 0
-Cascading kind form N o s C bs = (rep : ℕ → Signal) × IsCascading kind form N o s C rep (marks_of bs)
+abbrev pub Cascading : Kind → NetworkValue → ℕ → Signal → NetworkValue → List Bool → Type 0
+Cascading kind N o s C bs = (rep : ℕ → Signal) × IsCascading kind N o s C rep (marks_of bs)
 
 -- C stands in the middle of some cascade
-abbrev pub IsBegun : Kind → (GateValue → Normal) → NetworkValue → List Bool → Type 0
-IsBegun kind form C bs = (N : NetworkValue) × (o : ℕ) × (s : Signal) × CanSubstitute kind form N o s × Cascading kind form N o s C bs
+abbrev pub IsBegun : Kind → NetworkValue → List Bool → Type 0
+IsBegun kind C bs = (N : NetworkValue) × (o : ℕ) × (s : Signal) × CanSubstitute kind N o s × Cascading kind N o s C bs
 
 -- whichever cascade it was, it still is
-abbrev pub GoesOn : Kind → (GateValue → Normal) → NetworkValue → List Bool → NetworkValue → List Bool → Type 0
-GoesOn kind form C bs D cs = (N : NetworkValue) (o : ℕ) (s : Signal) → CanSubstitute kind form N o s → Cascading kind form N o s C bs → Cascading kind form N o s D cs
+abbrev pub GoesOn : Kind → NetworkValue → List Bool → NetworkValue → List Bool → Type 0
+GoesOn kind C bs D cs = (N : NetworkValue) (o : ℕ) (s : Signal) → CanSubstitute kind N o s → Cascading kind N o s C bs → Cascading kind N o s D cs
 
 -- s is the signal of a clean gate with the key, and has the value of the key
 pub record IsCleanHolder (C : NetworkValue) (bs : List Bool) (k : KeyValue) (s : Signal) : Type 0 where

@@ -3,6 +3,7 @@
 
 ghost use Rattle.std.specs.Prelude.{◌≡◌, ◌≢◌, ◌≤◌, ◌<◌, ◌+◌, ◌↔◌, ℕ, IsTrue, MatchOption, length, true, false};
 ghost use Rattle.lnet_gates.specs.declared.normal.Normal.TheVariants as forms;
+ghost use Rattle.lnet_gates.specs.Forms.{form_of};
 ghost use Rattle.lnet_gates.specs.Gates.{GateValue};
 ghost use Rattle.lnet_gates.specs.NormalLaws.{keyed_gate};
 ghost use Rattle.lnet_model.specs.Networks.{IsLive};
@@ -49,15 +50,15 @@ fn stands_at(store: &Store, n: Node, key: &Key, phase: bool) -> bool
 
 /// Merges a dirty gate into the signal that its normal form is, or into the clean gate of its key.
 fn merge<G: Gates>(hashed: &mut Hashed, watch: &mut Watch, redirection: Redirection)
-    requires begun { IsBegun G.KIND G.form hashed.old.store.network hashed.old.keys.dirty.items }
+    requires begun { IsBegun G.KIND hashed.old.store.network hashed.old.keys.dirty.items }
     requires dirty { marks_of hashed.old.keys.dirty.items redirection.from.0 ≡ true }
-    requires merges { (g : GateValue) × GateAt hashed.old.store.network redirection.from.0 g × CanMerge G.form hashed.old.store.network g redirection.to }
+    requires merges { (g : GateValue) × GateAt hashed.old.store.network redirection.from.0 g × CanMerge G.KIND hashed.old.store.network g redirection.to }
     requires live { IsLive hashed.old.store.network redirection.to.node.0 }
     requires apart { redirection.to.node.0 ≢ redirection.from.0 }
     requires gates { OnlyGates hashed.old.store.network hashed.old.keys.dirty.items }
     requires midway { IsMidway hashed.old }
     requires fit { AreFitBy ⟦<dyn View as View>⟧ hashed.old.store.network hashed.old.room watch.old }
-    ensures goes_on { GoesOn G.KIND G.form hashed.old.store.network hashed.old.keys.dirty.items hashed.new.store.network hashed.new.keys.dirty.items }
+    ensures goes_on { GoesOn G.KIND hashed.old.store.network hashed.old.keys.dirty.items hashed.new.store.network hashed.new.keys.dirty.items }
     ensures gates { OnlyGates hashed.new.store.network hashed.new.keys.dirty.items }
     ensures less { left hashed.new.store.network hashed.new.keys.dirty.items < left hashed.old.store.network hashed.old.keys.dirty.items }
     ensures midway { StaysMidway hashed.old hashed.new }
@@ -70,15 +71,15 @@ fn merge<G: Gates>(hashed: &mut Hashed, watch: &mut Watch, redirection: Redirect
 
 /// Sets a dirty gate to its normal form, which it hasn't and whose key no clean gate has, and tells the views.
 fn settle<G: Gates>(hashed: &mut Hashed, watch: &mut Watch, n: Node, key: Key, phase: bool)
-    requires begun { IsBegun G.KIND G.form hashed.old.store.network hashed.old.keys.dirty.items }
+    requires begun { IsBegun G.KIND hashed.old.store.network hashed.old.keys.dirty.items }
     requires dirty { marks_of hashed.old.keys.dirty.items n.0 ≡ true }
-    requires form { (g : GateValue) × GateAt hashed.old.store.network n.0 g × (G.form g ≡ forms.Gate key phase) }
+    requires form { (g : GateValue) × GateAt hashed.old.store.network n.0 g × (form_of G.KIND g ≡ forms.Gate key phase) }
     requires unused { IsUnusedKey hashed.old.store.network (marks_of hashed.old.keys.dirty.items) key }
     requires differs { GateAt hashed.old.store.network n.0 (keyed_gate key phase) → ⊥ }
     requires gates { OnlyGates hashed.old.store.network hashed.old.keys.dirty.items }
     requires midway { IsMidway hashed.old }
     requires fit { AreFitBy ⟦<dyn View as View>⟧ hashed.old.store.network hashed.old.room watch.old }
-    ensures goes_on { GoesOn G.KIND G.form hashed.old.store.network hashed.old.keys.dirty.items hashed.new.store.network hashed.new.keys.dirty.items }
+    ensures goes_on { GoesOn G.KIND hashed.old.store.network hashed.old.keys.dirty.items hashed.new.store.network hashed.new.keys.dirty.items }
     ensures gates { OnlyGates hashed.new.store.network hashed.new.keys.dirty.items }
     ensures less { left hashed.new.store.network hashed.new.keys.dirty.items < left hashed.old.store.network hashed.old.keys.dirty.items }
     ensures midway { StaysMidway hashed.old hashed.new }
@@ -94,12 +95,12 @@ fn settle<G: Gates>(hashed: &mut Hashed, watch: &mut Watch, n: Node, key: Key, p
 /// Takes a dirty gate: merges it where its normal form is a signal or has the key of a clean gate, and else sets it to its
 /// normal form where it differs.
 fn take_dirty<G: Gates>(hashed: &mut Hashed, watch: &mut Watch, n: Node)
-    requires begun { IsBegun G.KIND G.form hashed.old.store.network hashed.old.keys.dirty.items }
+    requires begun { IsBegun G.KIND hashed.old.store.network hashed.old.keys.dirty.items }
     requires dirty { marks_of hashed.old.keys.dirty.items n.0 ≡ true }
     requires gates { OnlyGates hashed.old.store.network hashed.old.keys.dirty.items }
     requires midway { IsMidway hashed.old }
     requires fit { AreFitBy ⟦<dyn View as View>⟧ hashed.old.store.network hashed.old.room watch.old }
-    ensures goes_on { GoesOn G.KIND G.form hashed.old.store.network hashed.old.keys.dirty.items hashed.new.store.network hashed.new.keys.dirty.items }
+    ensures goes_on { GoesOn G.KIND hashed.old.store.network hashed.old.keys.dirty.items hashed.new.store.network hashed.new.keys.dirty.items }
     ensures gates { OnlyGates hashed.new.store.network hashed.new.keys.dirty.items }
     ensures less { left hashed.new.store.network hashed.new.keys.dirty.items < left hashed.old.store.network hashed.old.keys.dirty.items }
     ensures midway { StaysMidway hashed.old hashed.new }
@@ -127,11 +128,11 @@ fn take_dirty<G: Gates>(hashed: &mut Hashed, watch: &mut Watch, n: Node)
 
 /// Takes dirty gates until none is dirty.
 pub(crate) fn cascade<G: Gates>(hashed: &mut Hashed, watch: &mut Watch)
-    requires begun { IsBegun G.KIND G.form hashed.old.store.network hashed.old.keys.dirty.items }
+    requires begun { IsBegun G.KIND hashed.old.store.network hashed.old.keys.dirty.items }
     requires gates { OnlyGates hashed.old.store.network hashed.old.keys.dirty.items }
     requires midway { IsMidway hashed.old }
     requires fit { AreFitBy ⟦<dyn View as View>⟧ hashed.old.store.network hashed.old.room watch.old }
-    ensures goes_on { GoesOn G.KIND G.form hashed.old.store.network hashed.old.keys.dirty.items hashed.new.store.network hashed.new.keys.dirty.items }
+    ensures goes_on { GoesOn G.KIND hashed.old.store.network hashed.old.keys.dirty.items hashed.new.store.network hashed.new.keys.dirty.items }
     ensures clean { (n : ℕ) → marks_of hashed.new.keys.dirty.items n ≡ false }
     ensures midway { StaysMidway hashed.old hashed.new }
     ensures long { length hashed.new.keys.dirty.items ≡ length hashed.old.keys.dirty.items }

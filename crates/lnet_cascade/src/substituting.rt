@@ -29,14 +29,14 @@ use lnet_store::View;
 /// It takes no memory, and can't be refused. Each gate that goes or that takes another form costs a look at each number, for its
 /// parents and for the next dirty gate; a key is found in constant time on average. The rest is what the views take.
 pub fn substitute<G: Gates>(hashed: &mut Hashed, watch: &mut Watch, gate: Node, signal: Signal)
-    requires strashed { IsStrashed G.KIND G.form hashed.old.store.network }
+    requires strashed { IsStrashed G.KIND hashed.old.store.network }
     requires gate { IsGateAt hashed.old.store.network gate.0 }
     requires live { IsLive hashed.old.store.network signal.node.0 }
     requires free { Depends hashed.old.store.network signal gate.0 → ⊥ }
     requires room { HasRoom hashed.old }
     requires fit { AreFitBy ⟦<dyn View as View>⟧ hashed.old.store.network hashed.old.room watch.old }
-    ensures substitutes { Substitutes G.KIND G.form hashed.old.store.network gate.0 signal hashed.new.store.network }
-    ensures strashed { IsStrashed G.KIND G.form hashed.new.store.network }
+    ensures substitutes { Substitutes G.KIND hashed.old.store.network gate.0 signal hashed.new.store.network }
+    ensures strashed { IsStrashed G.KIND hashed.new.store.network }
     ensures room { HasRoom hashed.new }
     ensures same { hashed.new.room ≡ hashed.old.room }
     ensures told { AreToldBy ⟦<dyn View as View>⟧ hashed.new.store.network hashed.new.room watch.old watch.new }

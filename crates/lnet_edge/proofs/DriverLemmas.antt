@@ -41,13 +41,6 @@ Repeats-push_cases xs x (i, j, below, within, same) =
 
 -- ---- one wire more
 
-pub KnowsWires-nil : (m : Drivers) → ((w : ℕ) → driver_at m w ≡ None) → KnowsWires m false []
-KnowsWires-nil m none = record {
-  has = λ w. ((λ e. let f : false ≡ true = sym (ap is_some (none w)) ∙ e in cc), (λ (k, within, is). absurd (omega arith)));
-  repeated = λ e. cc;
-  single = λ e (i, j, below, within, same). omega arith;
-}
-
 has-push : (m n : Drivers) (xs : List ℕ) (x : ℕ) (v : Option ℕ) → ((w : ℕ) → Decides (is_some (driver_at m w)) (Contains xs w)) → Updates nat_eq m n x (Some v) → (w : ℕ) → Decides (is_some (driver_at n w)) (Contains (xs ++ x ∷ []) w)
 has-push m n xs x v has up w =
     elim (eqb_tells x w) as (λ _. Decides (is_some (driver_at n w)) (Contains (xs ++ x ∷ []) w)) [

@@ -18,6 +18,18 @@ pub record CircuitValue : Type 0 where
   pub outputs : List OutputPort
   pub equations : List EquationValue
 
+-- the most inputs and equations, together, of a circuit that a network holds or that is read or written by numbers
+abbrev pub circuit_limit : ℕ
+circuit_limit = 1048576
+
+-- the most outputs of a circuit
+abbrev pub output_limit : ℕ
+output_limit = 100000000
+
+-- fewer names than this are numbered, so that each wire and the count of them fit u32
+abbrev pub wire_limit : ℕ
+wire_limit = 4294967295
+
 -- P holds of each item and its place, from this place on
 abbrev pub AllFrom : {A : Type 0} → (ℕ → A → Type 0) → ℕ → List A → Type 0
 AllFrom P i [] = Unit {0}

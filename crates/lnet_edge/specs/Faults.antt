@@ -1,11 +1,7 @@
 -- Failed calls of files as contracts see them: how many there were, and the last one.
-use Rattle.std.specs.Prelude.{ℕ, Option, Some, None, Result, Ok, Err}
-use Rattle.lnet_edge.specs.Outside.{Call, one_more}
+use Rattle.std.specs.Prelude.{ℕ, Option, Some, None}
+use Rattle.lnet_edge.specs.Outside.{Call}
 use Rattle.lnet_edge.specs.declared.outside.FailedCall.{FailedCall}
-use Rattle.lnet_edge.specs.declared.outside.FetchError.{FetchError}
-use Rattle.lnet_edge.specs.declared.outside.FetchError.TheVariants as fetch
-use Rattle.lnet_edge.specs.declared.outside.PutError.{PutError}
-use Rattle.lnet_edge.specs.declared.outside.PutError.TheVariants as put
 use Rattle.lnet_edge.specs.declared.faults.Faults.{Faults}
 
 -- how many calls failed, and the last of them
@@ -25,16 +21,3 @@ seen_call (Some f) = Some (the_call f)
 -- what contracts see of the faults
 abbrev pub faults_value : Faults → FaultsValue
 faults_value f = record { count = f.count; last = seen_call f.last }
-
--- the count of faults after a fetch: one more exactly where it failed
-abbrev pub faults_after_fetch : {T : Type 0} → Result T FetchError → ℕ → ℕ
-faults_after_fetch (Ok x) before = before
-faults_after_fetch (Err fetch.Failed) before = one_more before
-faults_after_fetch (Err fetch.TooLong) before = before
-faults_after_fetch (Err fetch.NoMemory) before = before
-
--- the count of faults after a store or a put: one more exactly where it failed
-abbrev pub faults_after_put : {T : Type 0} → Result T PutError → ℕ → ℕ
-faults_after_put (Ok x) before = before
-faults_after_put (Err put.Failed) before = one_more before
-faults_after_put (Err put.NoMemory) before = before

@@ -30,10 +30,6 @@ IsStep es ps top (step.Pass left) = (progress_at ps top ≡ Open (left + 1)) × 
 IsStep es ps top (step.Enter k) = (k < length es) × (progress_at ps k ≡ New) × ReadsPlace es top k
 IsStep es ps top step.Cycle = (k : ℕ) × (k < length es) × ((left : ℕ) × (progress_at ps k ≡ Open left)) × ReadsPlace es top k
 
--- no two equations drive one wire
-abbrev pub HasOwnTargets : List EquationValue → Type 0
-HasOwnTargets es = (i j : ℕ) → i < length es → j < length es → target_at es i ≡ target_at es j → i ≡ j
-
 -- what the search keeps
 pub record IsSearch (es : List EquationValue) (ps : List Progress) (path : List ℕ) : Type 0 where
   pub sized : length ps ≡ length es

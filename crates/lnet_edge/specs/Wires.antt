@@ -11,7 +11,7 @@ use Rattle.lnet_edge.specs.declared.circuit.Rule.TheVariants.{And, Or, Xor, Maj,
 use Rattle.lnet_edge.specs.declared.circuit.WireRef.{WireRef}
 use Rattle.lnet_edge.specs.declared.circuit.InputPort.{InputPort}
 use Rattle.lnet_edge.specs.declared.circuit.OutputPort.{OutputPort}
-use Rattle.lnet_edge.specs.Circuits.{CircuitValue, EquationValue}
+use Rattle.lnet_edge.specs.Circuits.{CircuitValue, EquationValue, output_limit}
 
 -- ---- what drives a wire, and what uses one
 
@@ -93,7 +93,7 @@ pub record IsCircuit (c : CircuitValue) : Type 0 where
   pub acyclic : ¬ (IsCyclic c)
   pub arities : HasArities c.equations
   pub few : length c.inputs + length c.equations < 4294967296
-  pub few_outputs : length c.outputs ≤ 100000000
+  pub few_outputs : length c.outputs ≤ output_limit
 
 -- the first rule that is broken, in this order: each wire that is used is driven, each is driven once, none depends on itself
 abbrev pub IsBroken : CircuitValue → Fault → Type 0

@@ -4,6 +4,7 @@ ghost use Rattle.std.specs.Prelude.{◌≡◌, ◌+◌, ◌<◌, ◌≤◌, ◌�
 ghost use Rattle.lnet_edge.specs.CircuitLists.{equation_views, listed_circuit};
 ghost use Rattle.lnet_edge.specs.Plain.{IsPlain};
 ghost use Rattle.lnet_edge.specs.Wires.{HasArities, IsCircuit, IsRefused};
+ghost use Rattle.lnet_edge.specs.Circuits.{output_limit};
 
 use crate::cover::CoverRows;
 use crate::cycles::is_cyclic;
@@ -14,6 +15,12 @@ use crate::plain::are_plain;
 use smallvec::SmallVec;
 use std::alloc::{AllocError, Global};
 use std::marker::Model;
+
+/// The most inputs and equations, together, of a circuit that a network holds or that is read or written by numbers.
+pub const CIRCUIT_LIMIT: u64 = 1_048_576;
+
+/// The most outputs of a circuit.
+pub const OUTPUT_LIMIT: u64 = 100_000_000;
 
 /// A wire by its number. Wire 0 is the constant false.
 #[derive(Clone, Copy, Debug, Default, PartialEq, Eq)]
@@ -142,7 +149,7 @@ impl Circuit {
     ) -> Result<Circuit, CircuitError>
         requires arities { HasArities (equation_views equations.items) }
         requires few { length inputs.items + length equations.items < 4294967296 }
-        requires few_outputs { length outputs.items ≤ 100000000 }
+        requires few_outputs { length outputs.items ≤ output_limit }
         ensures lists { IfOk result (λ c. c ≡ listed_circuit inputs.items outputs.items equations.items) }
         // No rule is broken.
         ensures circuit { IfOk result (λ c. IsCircuit c) }

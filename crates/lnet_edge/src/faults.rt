@@ -1,6 +1,6 @@
 //! The count of failed calls of files, and the last of them.
 
-ghost use Rattle.std.specs.Prelude.{◌≡◌, ◌≤◌, None, Some};
+ghost use Rattle.std.specs.Prelude.{◌≡◌, None, Some};
 ghost use Rattle.lnet_edge.specs.Outside.{call_of, one_more};
 ghost use Rattle.lnet_edge.specs.Faults.{faults_value};
 
@@ -27,7 +27,6 @@ impl Faults {
     /// Counts a failed call and keeps it as the last.
     pub(crate) fn add(&mut self, direction: Direction, name: &str)
         ensures count { (faults_value self.new).count ≡ one_more (faults_value self.old).count }
-        ensures later { (faults_value self.old).count ≤ (faults_value self.new).count }
         ensures last { (faults_value self.new).last ≡ Some (call_of direction name.now) }
     {
         self.count = self.count.saturating_add(1);

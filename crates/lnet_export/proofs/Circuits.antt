@@ -1,5 +1,5 @@
 -- The circuit of a network keeps the rules of circuits, and is plain.
-use Rattle.std.proofs.Common.{◌≡◌, ◌≢◌, ℕ, zero, suc, ◌+◌, ◌<◌, ◌≤◌, ◌⊎◌, Bool, true, ◌&&◌, IsTrue, IsSome, List, [], ◌∷◌, ◌++◌, length, map, flat_map, get_or, slice_get, Contains, All, Option, None, Some, refl, sym, ap, subst, ◌∙◌, inl, inr, arith, length-append}
+use Rattle.std.proofs.Common.{◌≡◌, ℕ, zero, suc, ◌+◌, ◌<◌, ◌≤◌, ◌⊎◌, true, ◌&&◌, IsSome, List, [], ◌∷◌, ◌++◌, length, map, flat_map, get_or, slice_get, Contains, All, Option, None, Some, refl, sym, ap, subst, ◌∙◌, inl, inr, arith, length-append}
 use Rattle.std.specs.List.{AllByRecursion, list_all}
 use Rattle.std.proofs.lemmas.List.{length-map}
 use Rattle.std.proofs.lemmas.List.Elements.{All-from_recursion}
@@ -8,22 +8,22 @@ use Rattle.lnet_gates.specs.declared.signal.Signal.{Signal}
 use Rattle.lnet_gates.specs.Gates.{GateValue}
 use Rattle.lnet_model.specs.Networks.{NetworkValue, Entry, Constant, Input, IsGate, IsLive, entry_at, live_count}
 use Rattle.lnet_model.specs.Along.{In, at_entry, nodes_read, fanin_nodes}
-use Rattle.lnet_model.specs.Changes.{GateAt, IsGateAt}
+use Rattle.lnet_model.specs.Changes.{IsGateAt}
 use Rattle.lnet_model.specs.Dags.{IsStored, NUMBERS}
 use Rattle.lnet_model.specs.Levels.{level, level_step}
 use Rattle.lnet_model.proofs.Levels.{level-falls}
 use Rattle.lnet_model.proofs.Map.{Apart, count_apart}
 use Rattle.lnet_model.proofs.Over.{over-once}
 use Rattle.lnet_edge.specs.declared.circuit.WireRef.{WireRef}
-use Rattle.lnet_edge.specs.Circuits.{CircuitValue, EquationValue}
-use Rattle.lnet_edge.specs.Wires.{input_wires, output_wires, targets, operand_wires, driven_wires, used_wires, Repeats, IsUndriven, IsTwice, Reads, IsWalk, end_of, IsCyclic, HasArity, HasArities, IsCircuit}
+use Rattle.lnet_edge.specs.Circuits.{EquationValue}
+use Rattle.lnet_edge.specs.Wires.{output_wires, targets, operand_wires, driven_wires, used_wires, Repeats, IsUndriven, IsTwice, Reads, IsWalk, end_of, IsCyclic, HasArity, HasArities, IsCircuit}
 use Rattle.lnet_edge.specs.Plain.{is_gate_equation, IsPlain}
 use Rattle.lnet_edge.proofs.SearchLemmas.{reads_from}
 use Rattle.lnet_edge.proofs.WireLemmas.{length-targets}
 use Rattle.lnet_names.specs.NameLists.{NamesValue}
-use Rattle.lnet_export.specs.Exported.{wire_for, wire_at, ref_in, equation_in, gates_in_order, equations_in, exported}
-use Rattle.lnet_export.proofs.Lists.{in-left, in-right, in-cases, in-contains, in-at, contains-in, each-append, each-weaker, each-in, each-by_in, apart-append, apart-once, apart-by_place}
-use Rattle.lnet_export.proofs.Orders.{Before, InOrder, order-at, order-gates, order-in_order, order-has}
+use Rattle.lnet_export.specs.Exported.{wire_for, wire_at, ref_in, gates_in_order, equations_in, exported}
+use Rattle.lnet_export.proofs.Lists.{in-left, in-right, in-cases, in-contains, in-at, contains-in, each-append, each-weaker, each-in, apart-append, apart-once, apart-by_place}
+use Rattle.lnet_export.proofs.Orders.{Before, order-at, order-gates, order-in_order, order-has}
 use Rattle.lnet_export.proofs.GateEquations.{IsEquationOf, equations-each, equations-targets, equation-of}
 use Rattle.lnet_export.proofs.RuleValues.{rule-arity, rule-is_gate}
 use Rattle.lnet_export.proofs.PortLemmas.{inputs-wires, inputs-count, outputs-wires, outputs-count}

@@ -1,5 +1,5 @@
 -- Members of lists of numbers, by recursion.
-use Rattle.std.proofs.Common.{◌≡◌, ℕ, zero, suc, ◌+◌, ◌<◌, ◌⊎◌, List, [], ◌∷◌, ◌++◌, length, map, get_or, Contains, refl, sym, ap, subst, inl, inr, arith}
+use Rattle.std.proofs.Common.{◌≡◌, ℕ, zero, suc, ◌+◌, ◌<◌, ◌⊎◌, List, [], ◌∷◌, ◌++◌, length, get_or, Contains, refl, sym, subst, inl, inr, arith}
 use Rattle.std.specs.List.{AllByRecursion}
 use Rattle.lnet_model.specs.Along.{In}
 use Rattle.lnet_model.proofs.Map.{Apart}
@@ -48,10 +48,6 @@ pub each-in : (P : ℕ → Type 0) (xs : List ℕ) (x : ℕ) → AllByRecursion 
 each-in P [] x p i = absurd i
 each-in P (z ∷ xs) x p (inl e) = subst P (sym e) p.0
 each-in P (z ∷ xs) x p (inr i) = each-in P xs x p.1 i
-
-pub each-by_in : (P : ℕ → Type 0) (xs : List ℕ) → ((x : ℕ) → In x xs → P x) → AllByRecursion P xs
-each-by_in P [] f = tt
-each-by_in P (x ∷ xs) f = (f x (inl refl), each-by_in P xs (λ y i. f y (inr i)))
 
 -- ---- numbers that stand once
 

@@ -6,6 +6,7 @@ ghost use Rattle.lnet_model.specs.Values.{network_outputs};
 ghost use Rattle.lnet_edge.specs.declared.circuit.Rule.TheVariants as rule;
 ghost use Rattle.lnet_edge.specs.Plain.{IsPlain};
 ghost use Rattle.lnet_edge.specs.Values.{circuit_outputs};
+ghost use Rattle.lnet_edge.specs.Circuits.{circuit_limit};
 ghost use Rattle.lnet_export.specs.Exported.{exported};
 
 use crate::equations::equations_of;
@@ -43,7 +44,7 @@ pub fn export<G: Gates>(
     ensures plain { IfOk result (λ c. IsPlain c.equations) }
     // An and-inverter graph gives And equations alone, without complement.
     ensures ands { IfOk result (λ c. G.KIND ≡ Aig → All (λ e. e.rule ≡ rule.And false) c.equations) }
-    ensures few { IfOk result (λ c. length c.inputs + length c.equations ≤ 1048576) }
+    ensures few { IfOk result (λ c. length c.inputs + length c.equations ≤ circuit_limit) }
     ensures input_names { IfOk result (λ c. map (λ p. p.name) c.inputs ≡ names.now.inputs) }
     ensures output_names { IfOk result (λ c. map (λ p. p.name) c.outputs ≡ names.now.outputs) }
 {

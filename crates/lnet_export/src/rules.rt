@@ -1,24 +1,12 @@
 //! The rules of gates.
 
-ghost use Rattle.std.specs.Prelude.{◌≡◌, ℕ, ◌^◌, ◌<◌, ◌≤◌, nat_lt, length};
-ghost use Rattle.lnet_tables.specs.Bits.{is_set};
+ghost use Rattle.std.specs.Prelude.{◌≡◌, ◌≤◌, length};
 ghost use Rattle.lnet_gates.specs.Plans.{Takes};
 ghost use Rattle.lnet_export.specs.Exported.{phased, rule_of as rule_in};
 
 use lnet_edge::Rule;
 use lnet_gates::{Gate, Op};
-
-/// The words whose first `2^n` rows are true and no others, for each `n`.
-const FIRST: [u64; 7] = [0x1, 0x3, 0xf, 0xff, 0xffff, 0xffffffff, u64::MAX];
-
-/// The word of the first `2^count` rows.
-fn first_rows(count: usize) -> u64
-    requires { count ≤ 6 }
-    ensures rows { (r : ℕ) → r < 64 → is_set result r ≡ nat_lt r (2 ^ count) }
-    ensures fits { result < 2 ^ 2 ^ count }
-{
-    FIRST[count]
-}
+use lnet_tables::first_rows;
 
 /// The table of so many variables, complemented where the phase is true.
 fn table_of(phase: bool, count: usize, table: u64) -> u64

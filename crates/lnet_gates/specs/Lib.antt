@@ -9,4 +9,6 @@ pub mod Laying
 pub mod Natives
 pub mod Lawful
 pub mod LutForms
+pub mod Forms
 pub mod Wiring
+pub mod KindWords

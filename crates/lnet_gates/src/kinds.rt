@@ -4,14 +4,9 @@ ghost use Rattle.std.specs.Prelude.{◌≡◌, ◌≤◌, ◌↔◌, IsTrue, len
 ghost use Rattle.lnet_tables.specs.Recipes.{sim};
 ghost use Rattle.lnet_gates.specs.declared.gate.Kind.{Kind};
 ghost use Rattle.lnet_gates.specs.declared.gate.Kind.TheVariants.{Aig, Xag, Mig, Klut};
-ghost use Rattle.lnet_gates.specs.declared.normal.Normal.{Normal};
-ghost use Rattle.lnet_gates.specs.Gates.{GateValue};
-ghost use Rattle.lnet_gates.specs.NormalLaws.{NormalLaws, AndsKeepPhase};
-ghost use Rattle.lnet_gates.specs.Natives.{IsNativeGate, normal_by_op};
-ghost use Rattle.lnet_gates.specs.LutForms as luts;
+ghost use Rattle.lnet_gates.specs.Natives.{IsNativeGate};
+ghost use Rattle.lnet_gates.specs.Forms.{form_of};
 ghost use Rattle.lnet_gates.specs.Plans.{Takes, plan_of, is_native, IsPlanNative, IfSteps, AllNative, op_rows};
-ghost use Rattle.lnet_gates.specs.Lawful.AndPhases.{aig_phases, xag_phases, mig_phases, klut_phases};
-ghost use Rattle.lnet_gates.specs.Lawful.KindLaws.{aig_laws, xag_laws, mig_laws, klut_laws};
 
 use crate::forming::{normal_and, normal_maj, normal_xor};
 use crate::gate::{Gate, Kind, Op};
@@ -24,9 +19,6 @@ pub trait Gates {
     /// The kind.
     ghost KIND: { Kind };
 
-    /// The normal form of a gate.
-    ghost form: { GateValue → Normal };
-
     /// The kind.
     const KIND: Kind;
 
@@ -34,13 +26,7 @@ pub trait Gates {
     /// operation takes. Constant time.
     fn normal(gate: &Gate) -> Normal
         requires { IsNativeGate KIND gate.now }
-        ensures { result ≡ form gate.now };
-
-    /// The normal forms keep values, names, themselves and replacement.
-    ghost laws: { NormalLaws (IsNativeGate KIND) form };
-
-    /// A key of an And is the form of an And gate alone, and has its phase.
-    ghost and_phase: { AndsKeepPhase (IsNativeGate KIND) form };
+        ensures { result ≡ form_of KIND gate.now };
 
     /// How a network of the kind lays the operation on `arity` operands, as `Kind::plan` says: `And` and `Xor` take 2, `Maj`
     /// takes 3, and `Lut` 0 to 6.
@@ -63,17 +49,11 @@ pub struct AigGates;
 impl Gates for AigGates {
     ghost KIND = { Aig };
 
-    ghost form = { normal_by_op };
-
     const KIND: Kind = Kind::Aig;
 
     fn normal(gate: &Gate) -> Normal {
         normal_and(gate)
     }
-
-    ghost laws = { aig_laws };
-
-    ghost and_phase = { aig_phases };
 }
 
 /// The gates of a xor-and graph.
@@ -81,8 +61,6 @@ pub struct XagGates;
 
 impl Gates for XagGates {
     ghost KIND = { Xag };
-
-    ghost form = { normal_by_op };
 
     const KIND: Kind = Kind::Xag;
 
@@ -92,10 +70,6 @@ impl Gates for XagGates {
             _ => normal_and(gate),
         }
     }
-
-    ghost laws = { xag_laws };
-
-    ghost and_phase = { xag_phases };
 }
 
 /// The gates of a majority-inverter graph.
@@ -104,17 +78,11 @@ pub struct MigGates;
 impl Gates for MigGates {
     ghost KIND = { Mig };
 
-    ghost form = { normal_by_op };
-
     const KIND: Kind = Kind::Mig;
 
     fn normal(gate: &Gate) -> Normal {
         normal_maj(gate)
     }
-
-    ghost laws = { mig_laws };
-
-    ghost and_phase = { mig_phases };
 }
 
 /// The gates of a network of look-up tables. Every operation is native; the normal form of a gate is a signal or the key of
@@ -124,15 +92,9 @@ pub struct KlutGates;
 impl Gates for KlutGates {
     ghost KIND = { Klut };
 
-    ghost form = { luts.normal_lut };
-
     const KIND: Kind = Kind::Klut;
 
     fn normal(gate: &Gate) -> Normal {
         normal_lut(gate)
     }
-
-    ghost laws = { klut_laws };
-
-    ghost and_phase = { klut_phases };
 }

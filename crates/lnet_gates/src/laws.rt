@@ -1,12 +1,15 @@
 //! Worked rows of what the gates compute, and the laws of their normal forms.
 
 ghost use Rattle.std.specs.Prelude.{◌≡◌, ℕ, ◌&&◌, ◌||◌, Bool, true, false, not, [], ◌∷◌};
+ghost use Rattle.lnet_gates.specs.declared.gate.Kind.{Kind};
 ghost use Rattle.lnet_gates.specs.declared.gate.Op.TheVariants.{And, Xor, Maj, Lut};
 ghost use Rattle.lnet_gates.specs.declared.normal.Normal.{Normal};
 ghost use Rattle.lnet_gates.specs.declared.normal.Normal.TheVariants.{Gate};
 ghost use Rattle.lnet_gates.specs.Gates.{GateValue, KeyValue, apply};
 ghost use Rattle.lnet_gates.specs.NormalForms.{normal_and, normal_xor, normal_maj};
-ghost use Rattle.lnet_gates.specs.NormalLaws.{NormalLaws, IsGateOf, gate_reading, form_reading};
+ghost use Rattle.lnet_gates.specs.NormalLaws.{NormalLaws, AndsKeepPhase, IsGateOf, gate_reading, form_reading};
+ghost use Rattle.lnet_gates.specs.Natives.{IsNativeGate};
+ghost use Rattle.lnet_gates.specs.Forms.{form_of};
 ghost use Rattle.lnet_gates.specs.LutForms.{IsLutGate, IsLutForm, normal_lut};
 
 /// An And is both of two, and a Xor is exactly one of two; a phase complements the value.
@@ -61,4 +64,11 @@ pub fn lut_forms_are_lawful()
 /// The normal form of Maj keeps values, names, itself and replacement.
 pub fn maj_forms_are_lawful()
     ensures { NormalLaws (IsGateOf Maj 3) normal_maj }
+{}
+
+/// The normal forms of each kind keep values, names, themselves and replacement, and a key of an And is the form of an And
+/// gate alone, and has its phase.
+pub fn kind_forms_are_lawful()
+    ensures laws { (kind : Kind) → NormalLaws (IsNativeGate kind) (form_of kind) }
+    ensures phase { (kind : Kind) → AndsKeepPhase (IsNativeGate kind) (form_of kind) }
 {}

@@ -17,8 +17,8 @@ pub use forming::{normal_and, normal_maj, normal_xor};
 pub use gate::{Gate, Kind, Op};
 pub use kinds::{AigGates, Gates, KlutGates, MigGates, XagGates};
 pub use laws::{
-    and_forms_are_lawful, and_xor_rows, lut_forms_are_lawful, maj_forms_are_lawful, majority_rows,
-    table_rows, xor_forms_are_lawful,
+    and_forms_are_lawful, and_xor_rows, kind_forms_are_lawful, lut_forms_are_lawful,
+    maj_forms_are_lawful, majority_rows, table_rows, xor_forms_are_lawful,
 };
 pub use normal::{Key, Normal};
 pub use planning::Plan;

@@ -12,8 +12,8 @@ use crate::gate::{Gate, Op};
 use crate::normal::{Key, Normal};
 use crate::signal::Signal;
 use crate::wiring::{Wired, merged, needed, ordered, plain, wired_gate};
-use crate::words::first_rows;
 use arrayvec::ArrayVec;
+use lnet_tables::first_rows;
 
 /// The normal form of a gate in a network of look-up tables: an And or a Xor of two fanins, a Maj of three, or a table of up
 /// to six. The operands are the nodes that the gate's value changes with, plain and ascending; equal and constant fanins,

@@ -2,6 +2,7 @@
 
 ghost use Rattle.std.specs.Prelude.{◌≡◌, ◌<◌, ◌≤◌, ◌+◌, length, map, IfOk};
 ghost use Rattle.lnet_edge.specs.CircuitLists.{equation_view, equation_views};
+ghost use Rattle.lnet_edge.specs.Circuits.{wire_limit};
 ghost use Rattle.lnet_generate.specs.Drawing.{draw_use, draw_uses, draw_rule, operand_count, draw_gate, draw_gates, inputs_from, shown};
 
 use lnet_edge::{Equation, InputPort, OutputPort, Rule, Wire, WireRef};
@@ -74,7 +75,7 @@ fn draw_gate<R: Rng>(
     wires: u32,
 ) -> Result<Equation, AllocError>
     requires some { 0 < wires }
-    requires few { wires < 4294967295 }
+    requires few { wires < wire_limit }
     ensures { IfOk result (λ e. (equation_view e, R.stream rng.new) ≡ draw_gate kind wires (R.stream rng.old)) }
 {
     let rule = draw_rule(rng, kind);
@@ -95,7 +96,7 @@ pub(crate) fn draw_gates<R: Rng>(
     gates: u32,
 ) -> Result<Vec<Equation>, AllocError>
     requires some { 0 < inputs }
-    requires few { inputs + gates < 4294967295 }
+    requires few { inputs + gates < wire_limit }
     ensures { IfOk result (λ es. (equation_views es.items, R.stream rng.new) ≡ draw_gates kind gates inputs (R.stream rng.old)) }
 {
     let mut equations = Vec::new(alloc);
@@ -127,7 +128,7 @@ pub(crate) fn draw_outputs<R: Rng>(
 
 /// So many inputs, on the wires from 1 on.
 pub(crate) fn number_inputs(alloc: Global, inputs: u32) -> Result<Vec<InputPort>, AllocError>
-    requires { inputs < 4294967295 }
+    requires { inputs < wire_limit }
     ensures { IfOk result (λ ports. ports.items ≡ inputs_from 1 inputs) }
 {
     let mut ports = Vec::new(alloc);

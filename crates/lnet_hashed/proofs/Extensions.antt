@@ -4,7 +4,7 @@ use Rattle.lnet_gates.specs.declared.signal.Signal.{Signal}
 use Rattle.lnet_gates.specs.Gates.{GateValue, flip}
 use Rattle.lnet_model.specs.Networks.{NetworkValue, IsGate, IsLive, entry_at, fanins_of}
 use Rattle.lnet_model.specs.Along.{at_entry, IsWhole, Acyclic, nodes_read}
-use Rattle.lnet_model.specs.Values.{value_step, node_value, signal_value, network_outputs}
+use Rattle.lnet_model.specs.Values.{value_step, node_value, signal_value}
 use Rattle.lnet_model.specs.Changes.{AreLive, with_entry}
 use Rattle.lnet_model.specs.Dags.{IsStored}
 use Rattle.lnet_model.proofs.Over.{over-once}
@@ -44,11 +44,6 @@ extends-signal N M e a s h = ap (flip s.complement) (e.values a s.node.0 h)
 pub extends-signals : (N M : NetworkValue) → Extends N M → (a : ℕ → Bool) (ss : List Signal) → AreLive N (nodes_read ss) → map (signal_value M a) ss ≡ map (signal_value N a) ss
 extends-signals N M e a [] h = refl
 extends-signals N M e a (s ∷ ss) h = λ i. extends-signal N M e a s (h s.node.0 (inl refl)) i ∷ extends-signals N M e a ss (λ m k. h m (inr k)) i
-
--- the outputs have their values
-pub extends-outputs : (N M : NetworkValue) → Extends N M → IsWhole N → (a : ℕ → Bool) → network_outputs M a ≡ network_outputs N a
-unfolding network_outputs
-extends-outputs N M e whole a = ap (map (signal_value M a)) e.outputs ∙ extends-signals N M e a N.outputs whole.outputs_live
 
 -- a gate on live fanins at a free number
 pub extends-added : (N : NetworkValue) (k : ℕ) (g : GateValue) → IsStored N → entry_at N k ≡ None → AreLive N (nodes_read g.fanins) → Extends N (with_entry N k (IsGate g))

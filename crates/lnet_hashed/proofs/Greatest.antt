@@ -1,5 +1,5 @@
 -- The greatest level of the outputs, output by output, and levels as a view keeps them.
-use Rattle.std.proofs.Common.{◌≡◌, ℕ, zero, suc, ◌≤◌, max, List, [], ◌∷◌, map, length, Option, None, Some, refl, sym, ap, ◌∙◌, arith, slice_get}
+use Rattle.std.proofs.Common.{◌≡◌, ℕ, zero, suc, max, List, [], ◌∷◌, map, Option, None, Some, refl, sym, ap, ◌∙◌, arith, slice_get}
 use Rattle.lnet_gates.specs.declared.signal.Signal.{Signal}
 use Rattle.std.specs.Option.{unwrap_or, option_map}
 use Rattle.lnet_model.specs.Networks.{NetworkValue, Lookup, entry_at, live_count, fanins_of}
@@ -23,12 +23,6 @@ pub greatest-next : (V : ℕ → ℕ) (d k : ℕ) (ss : List Signal) (s : Signal
 greatest-next V d k [] s e = cc
 greatest-next V d zero (x ∷ ss) s e = let is : x ≡ s = cc in let v = ap (λ (z : Signal). V z.node.0) is in omega arith
 greatest-next V d (suc k) (x ∷ ss) s e = greatest-next V d k ss s e
-
-pub greatest-end : (V : ℕ → ℕ) (d k : ℕ) (ss : List Signal) → length ss ≤ k → greatest_from V d k ss ≡ d
-greatest-end V d zero [] h = omega arith
-greatest-end V d (suc k) [] h = omega arith
-greatest-end V d zero (x ∷ ss) h = absurd (omega arith)
-greatest-end V d (suc k) (x ∷ ss) h = greatest-end V d k ss (omega arith)
 
 -- ---- levels that a view keeps
 

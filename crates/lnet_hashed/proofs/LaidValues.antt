@@ -8,18 +8,16 @@ use Rattle.lnet_tables.specs.declared.step.Lit.{Lit}
 use Rattle.lnet_tables.specs.declared.step.Step.{Step}
 use Rattle.lnet_tables.specs.declared.step.StepOp.{StepOp}
 use Rattle.lnet_tables.specs.declared.step.StepOp.TheVariants as steps
-use Rattle.lnet_tables.specs.Recipes.{RecipeValue, place, run, lit_value, step_value}
+use Rattle.lnet_tables.specs.Recipes.{RecipeValue, place, run, lit_value}
 use Rattle.lnet_tables.specs.Recipes as recipes
 use Rattle.lnet_gates.specs.declared.signal.Signal.{Signal}
 use Rattle.lnet_gates.specs.declared.gate.Kind.{Kind}
 use Rattle.lnet_gates.specs.declared.gate.Op.{Op}
-use Rattle.lnet_gates.specs.declared.normal.Normal.{Normal}
 use Rattle.lnet_gates.specs.declared.planning.Plan.{Plan}
 use Rattle.lnet_gates.specs.declared.planning.Plan.TheVariants.{Native, Steps}
-use Rattle.lnet_gates.specs.Gates.{GateValue, flip, and_of, xor_of, maj_of, operate}
+use Rattle.lnet_gates.specs.Gates.{flip, and_of, xor_of, maj_of, operate}
 use Rattle.lnet_gates.specs.Operands.{constant}
 use Rattle.lnet_gates.specs.Natives.{IsNativeGate, FitsWord}
-use Rattle.lnet_gates.specs.NormalLaws.{NormalLaws}
 use Rattle.lnet_gates.specs.Plans.{Takes, is_native, op_of, AllNative, plan_of, recipe_of, op_rows}
 use Rattle.lnet_gates.specs.Remade.{native_recipe}
 use Rattle.lnet_gates.specs.Lawful.OperandLemmas.{read-flipped}
@@ -106,13 +104,13 @@ module _ (N : NetworkValue) (places : List Signal) (a : ℕ → Bool) (first : n
 -- ---- the steps one after another
 
 -- no node goes as steps are laid
-pub laid_steps-grows : (form : GateValue → Normal) (ss : List Step) (N : NetworkValue) (places : List Signal) → live_count N ≤ live_count (laid_steps form ss N places).network
+pub laid_steps-grows : (kind : Kind) (ss : List Step) (N : NetworkValue) (places : List Signal) → live_count N ≤ live_count (laid_steps kind ss N places).network
 unfolding laid_steps
-laid_steps-grows form [] N places = omega arith
-laid_steps-grows form (s ∷ ss) N places =
-    let p : Placed = placed form N (step_gate places s) in
-    let once = placed-grows form N (step_gate places s) in
-    let rest = laid_steps-grows form ss p.network (places ++ p.signal ∷ []) in
+laid_steps-grows kind [] N places = omega arith
+laid_steps-grows kind (s ∷ ss) N places =
+    let p : Placed = placed kind N (step_gate places s) in
+    let once = placed-grows kind N (step_gate places s) in
+    let rest = laid_steps-grows kind ss p.network (places ++ p.signal ∷ []) in
     omega arith
 
 -- what laying leaves: a network that a store can keep, which extends the one before, and live places of these values
@@ -135,28 +133,28 @@ first-native kind s ss h = h 0 s (omega arith)
 pub rest-native : (kind : Kind) (s : Step) (ss : List Step) → AllNative kind (s ∷ ss) → AllNative kind ss
 rest-native kind s ss h k d lt = h (suc k) d (omega arith)
 
-module _ (kind : Kind) (form : GateValue → Normal) (laws : NormalLaws (IsNativeGate kind) form) where
+module _ (kind : Kind) where
   -- native steps keep hashing
-  pub strashed-laid_steps : (ss : List Step) (N : NetworkValue) (places : List Signal) → IsStrashed kind form N → AllNative kind ss → IsStrashed kind form (laid_steps form ss N places).network
+  pub strashed-laid_steps : (ss : List Step) (N : NetworkValue) (places : List Signal) → IsStrashed kind N → AllNative kind ss → IsStrashed kind (laid_steps kind ss N places).network
   unfolding laid_steps
   strashed-laid_steps [] N places h native = h
   strashed-laid_steps (s ∷ ss) N places h native =
-      let p : Placed = placed form N (step_gate places s) in
-      let once = strashed-placed kind form N laws h (step_gate places s) (step-native kind places s.op s.a s.b s.c (first-native kind s ss native)) in
+      let p : Placed = placed kind N (step_gate places s) in
+      let once = strashed-placed kind N h (step_gate places s) (step-native kind places s.op s.a s.b s.c (first-native kind s ss native)) in
       strashed-laid_steps ss p.network (places ++ p.signal ∷ []) once (rest-native kind s ss native)
 
   -- native steps on live places give the values that the recipe's steps give, and the rest keeps its values
-  pub laid_steps-stand : (ss : List Step) (N : NetworkValue) (places : List Signal) → IsStored N → AreLive N (nodes_read places) → AllNative kind ss → live_count (laid_steps form ss N places).network ≤ NUMBERS → AllStand N (λ a. run ss (map (signal_value N a) places)) (laid_steps form ss N places)
+  pub laid_steps-stand : (ss : List Step) (N : NetworkValue) (places : List Signal) → IsStored N → AreLive N (nodes_read places) → AllNative kind ss → live_count (laid_steps kind ss N places).network ≤ NUMBERS → AllStand N (λ a. run ss (map (signal_value N a) places)) (laid_steps kind ss N places)
   unfolding laid_steps
   laid_steps-stand [] N places stored live native few = record { stored = stored; extends = extends-self N; live = live; valued = λ a. refl }
   laid_steps-stand (s ∷ ss) N places stored live native few =
-      let p : Placed = placed form N (step_gate places s) in
-      let more = laid_steps-grows form ss p.network (places ++ p.signal ∷ []) in
-      let h = placed-stands kind form N (step_gate places s) laws stored (step-native kind places s.op s.a s.b s.c (first-native kind s ss native)) (operands-live N places stored.whole live s.op s.a s.b s.c) (omega arith) in
+      let p : Placed = placed kind N (step_gate places s) in
+      let more = laid_steps-grows kind ss p.network (places ++ p.signal ∷ []) in
+      let h = placed-stands kind N (step_gate places s) stored (step-native kind places s.op s.a s.b s.c (first-native kind s ss native)) (operands-live N places stored.whole live s.op s.a s.b s.c) (omega arith) in
       let rest = laid_steps-stand ss p.network (places ++ p.signal ∷ []) h.stored (live-one_more p.network places p.signal (extends-all_live N p.network h.extends (nodes_read places) live) h.live) (rest-native kind s ss native) few in
       record {
         stored = rest.stored;
-        extends = extends-twice N p.network (laid_steps form ss p.network (places ++ p.signal ∷ [])).network h.extends rest.extends;
+        extends = extends-twice N p.network (laid_steps kind ss p.network (places ++ p.signal ∷ [])).network h.extends rest.extends;
         live = rest.live;
         valued = λ a. rest.valued a ∙ ap (run ss) (
             map-append (signal_value p.network a) places (p.signal ∷ [])
@@ -166,19 +164,19 @@ module _ (kind : Kind) (form : GateValue → Normal) (laws : NormalLaws (IsNativ
 
 -- ---- a recipe
 
-pub laid-grows : (form : GateValue → Normal) (N : NetworkValue) (r : RecipeValue) (leaves : List Signal) → live_count N ≤ live_count (laid form N r leaves).network
-laid-grows form N r leaves = laid_steps-grows form r.steps N (constant false ∷ leaves)
+pub laid-grows : (kind : Kind) (N : NetworkValue) (r : RecipeValue) (leaves : List Signal) → live_count N ≤ live_count (laid kind N r leaves).network
+laid-grows kind N r leaves = laid_steps-grows kind r.steps N (constant false ∷ leaves)
 
-module _ (kind : Kind) (form : GateValue → Normal) (laws : NormalLaws (IsNativeGate kind) form) where
+module _ (kind : Kind) where
   -- a recipe of native steps keeps hashing
-  pub strashed-laid : (N : NetworkValue) (r : RecipeValue) (leaves : List Signal) → IsStrashed kind form N → AllNative kind r.steps → IsStrashed kind form (laid form N r leaves).network
-  strashed-laid N r leaves h native = strashed-laid_steps kind form laws r.steps N (constant false ∷ leaves) h native
+  pub strashed-laid : (N : NetworkValue) (r : RecipeValue) (leaves : List Signal) → IsStrashed kind N → AllNative kind r.steps → IsStrashed kind (laid kind N r leaves).network
+  strashed-laid N r leaves h native = strashed-laid_steps kind r.steps N (constant false ∷ leaves) h native
 
   -- a recipe of native steps on live leaves: the signal has the value of its root, and the rest keeps its values
-  pub laid-stands : (N : NetworkValue) (r : RecipeValue) (leaves : List Signal) → IsStored N → AreLive N (nodes_read leaves) → AllNative kind r.steps → live_count (laid form N r leaves).network ≤ NUMBERS → Stands N (λ a. lit_value (run r.steps (false ∷ map (signal_value N a) leaves)) r.root) (laid form N r leaves)
+  pub laid-stands : (N : NetworkValue) (r : RecipeValue) (leaves : List Signal) → IsStored N → AreLive N (nodes_read leaves) → AllNative kind r.steps → live_count (laid kind N r leaves).network ≤ NUMBERS → Stands N (λ a. lit_value (run r.steps (false ∷ map (signal_value N a) leaves)) r.root) (laid kind N r leaves)
   laid-stands N r leaves stored live native few =
-      let l : Laid = laid_steps form r.steps N (constant false ∷ leaves) in
-      let h = laid_steps-stand kind form laws r.steps N (constant false ∷ leaves) stored places-live native few in
+      let l : Laid = laid_steps kind r.steps N (constant false ∷ leaves) in
+      let h = laid_steps-stand kind r.steps N (constant false ∷ leaves) stored places-live native few in
       record {
         stored = h.stored;
         extends = h.extends;
@@ -195,34 +193,34 @@ module _ (kind : Kind) (form : GateValue → Normal) (laws : NormalLaws (IsNativ
 
 -- ---- an operation
 
-pub by_plan-grows : (form : GateValue → Normal) (N : NetworkValue) (op : Op) (operands : List Signal) (p : Plan) → live_count N ≤ live_count (by_plan form N op operands p).network
-by_plan-grows form N op operands Native = placed-grows form N (record { op = op; phase = false; fanins = operands })
-by_plan-grows form N op operands (Steps r) = laid-grows form N r operands
+pub by_plan-grows : (kind : Kind) (N : NetworkValue) (op : Op) (operands : List Signal) (p : Plan) → live_count N ≤ live_count (by_plan kind N op operands p).network
+by_plan-grows kind N op operands Native = placed-grows kind N (record { op = op; phase = false; fanins = operands })
+by_plan-grows kind N op operands (Steps r) = laid-grows kind N r operands
 
 -- no node goes as an operation is made
-pub made-grows : (kind : Kind) (form : GateValue → Normal) (N : NetworkValue) (op : Op) (operands : List Signal) → live_count N ≤ live_count (made kind form N op operands).network
+pub made-grows : (kind : Kind) (N : NetworkValue) (op : Op) (operands : List Signal) → live_count N ≤ live_count (made kind N op operands).network
 unfolding made
-made-grows kind form N op operands = by_plan-grows form N op operands (plan_of kind op (length operands))
+made-grows kind N op operands = by_plan-grows kind N op operands (plan_of kind op (length operands))
 
 -- the value of an operation on operands of a network
 abbrev pub operation_on : NetworkValue → Op → List Signal → (ℕ → Bool) → Bool
 operation_on N op operands a = operate op (map (signal_value N a) operands)
 
-module _ (kind : Kind) (form : GateValue → Normal) (laws : NormalLaws (IsNativeGate kind) form) (N : NetworkValue) (op : Op) (operands : List Signal) (takes : Takes op (length operands)) (fits : FitsWord op) where
+module _ (kind : Kind) (N : NetworkValue) (op : Op) (operands : List Signal) (takes : Takes op (length operands)) (fits : FitsWord op) where
   -- by the plan for a test whether the operation is native
   abbrev by_test : Bool → Placed
-  by_test b = by_plan form N op operands (cond b Native (Steps (native_recipe kind (recipe_of op (length operands)))))
+  by_test b = by_plan kind N op operands (cond b Native (Steps (native_recipe kind (recipe_of op (length operands)))))
 
-  strashed-by_test : (b : Bool) → is_native kind op ≡ b → IsStrashed kind form N → IsStrashed kind form (by_test b).network
-  strashed-by_test true is h = strashed-placed kind form N laws h (record { op = op; phase = false; fanins = operands }) (record { has = is; takes = takes; fits = fits })
-  strashed-by_test false is h = strashed-laid kind form laws N (native_recipe kind (recipe_of op (length operands))) operands h (native_steps kind (recipe_of op (length operands)))
+  strashed-by_test : (b : Bool) → is_native kind op ≡ b → IsStrashed kind N → IsStrashed kind (by_test b).network
+  strashed-by_test true is h = strashed-placed kind N h (record { op = op; phase = false; fanins = operands }) (record { has = is; takes = takes; fits = fits })
+  strashed-by_test false is h = strashed-laid kind N (native_recipe kind (recipe_of op (length operands))) operands h (native_steps kind (recipe_of op (length operands)))
 
   stands-by_test : (b : Bool) → is_native kind op ≡ b → IsStored N → AreLive N (nodes_read operands) → live_count (by_test b).network ≤ NUMBERS → Stands N (operation_on N op operands) (by_test b)
-  stands-by_test true is stored live few = placed-stands kind form N (record { op = op; phase = false; fanins = operands }) laws stored (record { has = is; takes = takes; fits = fits }) live few
+  stands-by_test true is stored live few = placed-stands kind N (record { op = op; phase = false; fanins = operands }) stored (record { has = is; takes = takes; fits = fits }) live few
   stands-by_test false is stored live few =
       let r : RecipeValue = native_recipe kind (recipe_of op (length operands)) in
-      stands-as N (λ a. lit_value (run r.steps (false ∷ map (signal_value N a) operands)) r.root) (operation_on N op operands) (laid form N r operands) computed
-      (laid-stands kind form laws N r operands stored live (native_steps kind (recipe_of op (length operands))) few)
+      stands-as N (λ a. lit_value (run r.steps (false ∷ map (signal_value N a) operands)) r.root) (operation_on N op operands) (laid kind N r operands) computed
+      (laid-stands kind N r operands stored live (native_steps kind (recipe_of op (length operands))) few)
     where
       computed : (a : ℕ → Bool) → lit_value (run (native_recipe kind (recipe_of op (length operands))).steps (false ∷ map (signal_value N a) operands)) (native_recipe kind (recipe_of op (length operands))).root ≡ operation_on N op operands a
       computed a =
@@ -232,27 +230,27 @@ module _ (kind : Kind) (form : GateValue → Normal) (laws : NormalLaws (IsNativ
           (plan_computes kind op (length operands) takes ∙ ap (op_rows op) (sym long))
 
   -- an operation that is made keeps hashing
-  pub strashed-made : IsStrashed kind form N → IsStrashed kind form (made kind form N op operands).network
+  pub strashed-made : IsStrashed kind N → IsStrashed kind (made kind N op operands).network
   unfolding made
   strashed-made = strashed-by_test (is_native kind op) refl
 
   -- an operation is made on live operands: the signal has its value, and the rest keeps its values
-  pub made-stands : IsStored N → AreLive N (nodes_read operands) → live_count (made kind form N op operands).network ≤ NUMBERS → Stands N (operation_on N op operands) (made kind form N op operands)
+  pub made-stands : IsStored N → AreLive N (nodes_read operands) → live_count (made kind N op operands).network ≤ NUMBERS → Stands N (operation_on N op operands) (made kind N op operands)
   unfolding made
   made-stands = stands-by_test (is_native kind op) refl
 
 -- ---- the steps one by one
 
-pub step-laid : (form : GateValue → Normal) (s : Step) (ss : List Step) (N : NetworkValue) (places : List Signal) (p : Placed) → placed form N (step_gate places s) ≡ p → laid_steps form (s ∷ ss) N places ≡ laid_steps form ss p.network (places ++ p.signal ∷ [])
+pub step-laid : (kind : Kind) (s : Step) (ss : List Step) (N : NetworkValue) (places : List Signal) (p : Placed) → placed kind N (step_gate places s) ≡ p → laid_steps kind (s ∷ ss) N places ≡ laid_steps kind ss p.network (places ++ p.signal ∷ [])
 unfolding laid_steps
-step-laid form s ss N places p is = ap (λ (q : Placed). laid_steps form ss q.network (places ++ q.signal ∷ [])) is
+step-laid kind s ss N places p is = ap (λ (q : Placed). laid_steps kind ss q.network (places ++ q.signal ∷ [])) is
 
 -- what is placed for the first step isn't more than what is laid
-pub step-within : (form : GateValue → Normal) (s : Step) (ss : List Step) (N : NetworkValue) (places : List Signal) → live_count (placed form N (step_gate places s)).network ≤ live_count (laid_steps form (s ∷ ss) N places).network
+pub step-within : (kind : Kind) (s : Step) (ss : List Step) (N : NetworkValue) (places : List Signal) → live_count (placed kind N (step_gate places s)).network ≤ live_count (laid_steps kind (s ∷ ss) N places).network
 unfolding laid_steps
-step-within form s ss N places =
-    let p : Placed = placed form N (step_gate places s) in
-    laid_steps-grows form ss p.network (places ++ p.signal ∷ [])
+step-within kind s ss N places =
+    let p : Placed = placed kind N (step_gate places s) in
+    laid_steps-grows kind ss p.network (places ++ p.signal ∷ [])
 
 -- the steps from i on, where step i is s
 pub steps-from : (ss : List Step) (i : ℕ) (s : Step) → slice_get ss i ≡ Some s → drop i ss ≡ s ∷ drop (i + 1) ss
@@ -261,14 +259,14 @@ steps-from ss i s is =
     drop-cons ss i s (slice_get_within ss i s is) ∙ ap (λ x. x ∷ drop (suc i) ss) (get_or_from_slice_get ss i s s is) ∙ ap (λ j. s ∷ drop j ss) more
 
 -- no steps are left
-pub laid_none : (form : GateValue → Normal) (ss : List Step) (i : ℕ) (N : NetworkValue) (places : List Signal) → length ss ≤ i → laid_steps form (drop i ss) N places ≡ record { network = N; places = places }
+pub laid_none : (kind : Kind) (ss : List Step) (i : ℕ) (N : NetworkValue) (places : List Signal) → length ss ≤ i → laid_steps kind (drop i ss) N places ≡ record { network = N; places = places }
 unfolding laid_steps
-laid_none form ss i N places past = ap (λ rest. laid_steps form rest N places) (drop_all i ss past)
+laid_none kind ss i N places past = ap (λ rest. laid_steps kind rest N places) (drop_all i ss past)
 
-pub laid_done : (form : GateValue → Normal) (N M : NetworkValue) (r : RecipeValue) (leaves places : List Signal) → laid_steps form r.steps N (constant false ∷ leaves) ≡ record { network = M; places = places } → laid form N r leaves ≡ record { network = M; signal = signal_at places r.root }
-laid_done form N M r leaves places is = ap (λ (l : Laid). record { network = l.network; signal = signal_at l.places r.root }) is
+pub laid_done : (kind : Kind) (N M : NetworkValue) (r : RecipeValue) (leaves places : List Signal) → laid_steps kind r.steps N (constant false ∷ leaves) ≡ record { network = M; places = places } → laid kind N r leaves ≡ record { network = M; signal = signal_at places r.root }
+laid_done kind N M r leaves places is = ap (λ (l : Laid). record { network = l.network; signal = signal_at l.places r.root }) is
 
 -- an operation by its plan
-pub made_by : (kind : Kind) (form : GateValue → Normal) (N : NetworkValue) (op : Op) (operands : List Signal) (p : Plan) → p ≡ plan_of kind op (length operands) → made kind form N op operands ≡ by_plan form N op operands p
+pub made_by : (kind : Kind) (N : NetworkValue) (op : Op) (operands : List Signal) (p : Plan) → p ≡ plan_of kind op (length operands) → made kind N op operands ≡ by_plan kind N op operands p
 unfolding made
-made_by kind form N op operands p is = ap (by_plan form N op operands) (sym is)
+made_by kind N op operands p is = ap (by_plan kind N op operands) (sym is)

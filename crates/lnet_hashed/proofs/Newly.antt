@@ -6,6 +6,8 @@ use Rattle.lnet_gates.specs.declared.normal.Normal.{Normal}
 use Rattle.lnet_gates.specs.declared.normal.Normal.TheVariants.{Is, Gate}
 use Rattle.lnet_gates.specs.Gates.{GateValue, KeyValue}
 use Rattle.lnet_gates.specs.NormalLaws.{NamesOnly, keyed_gate}
+use Rattle.lnet_gates.specs.Forms.{form_of}
+use Rattle.lnet_gates.specs.declared.gate.Kind.{Kind}
 use Rattle.lnet_model.specs.Networks.{NetworkValue, IsGate, IsLive, entry_at, live_count}
 use Rattle.lnet_model.specs.Along.{nodes_read}
 use Rattle.lnet_model.specs.Changes.{with_entry, AreLive}
@@ -41,9 +43,9 @@ form-keeps-live N form m live = elim (placed-either N form) [
   | inr new ↦ subst (λ (p : Placed). IsLive p.network m) (sym new.placed_is) (with-live N (least_free N) (IsGate (keyed_gate new.key false)) m live)
 ]
 
-pub placed-keeps-live : (form : GateValue → Normal) (N : NetworkValue) (g : GateValue) (m : ℕ) → IsLive N m → IsLive (placed form N g).network m
+pub placed-keeps-live : (kind : Kind) (N : NetworkValue) (g : GateValue) (m : ℕ) → IsLive N m → IsLive (placed kind N g).network m
 unfolding placed
-placed-keeps-live form N g m live = form-keeps-live N (form g) m live
+placed-keeps-live kind N g m live = form-keeps-live N (form_of kind g) m live
 
 form-grows : (N : NetworkValue) (form : Normal) → live_count N ≤ live_count (placed_form N form).network
 form-grows N form = elim (placed-either N form) [
@@ -55,9 +57,9 @@ form-grows N form = elim (placed-either N form) [
       )
 ]
 
-pub placed-grows : (form : GateValue → Normal) (N : NetworkValue) (g : GateValue) → live_count N ≤ live_count (placed form N g).network
+pub placed-grows : (kind : Kind) (N : NetworkValue) (g : GateValue) → live_count N ≤ live_count (placed kind N g).network
 unfolding placed
-placed-grows form N g = form-grows N (form g)
+placed-grows kind N g = form-grows N (form_of kind g)
 
 -- with no more nodes than before, nothing was added
 pub form-same : (N : NetworkValue) (form : Normal) → live_count (placed_form N form).network ≤ live_count N → (placed_form N form).network ≡ N
@@ -70,9 +72,9 @@ form-same N form few = elim (placed-either N form) [
       )
 ]
 
-pub placed-same : (form : GateValue → Normal) (N : NetworkValue) (g : GateValue) → live_count (placed form N g).network ≤ live_count N → (placed form N g).network ≡ N
+pub placed-same : (kind : Kind) (N : NetworkValue) (g : GateValue) → live_count (placed kind N g).network ≤ live_count N → (placed kind N g).network ≡ N
 unfolding placed
-placed-same form N g few = form-same N (form g) few
+placed-same kind N g few = form-same N (form_of kind g) few
 
 -- what takes back the new node n of M, and then the others
 pub record IsTakenBack (N M : NetworkValue) (n : Node) (ns : List Node) : Type 0 where
@@ -95,9 +97,9 @@ form-taken N g form ns stored live names may more = elim (placed-either N form) 
       )
 ]
 
-pub placed-taken : (form : GateValue → Normal) (N : NetworkValue) (g : GateValue) (ns : List Node) → IsStored N → AreLive N (nodes_read g.fanins) → NamesOnly g.fanins (form g) → IsUndoable ns N → live_count N < live_count (placed form N g).network → IsTakenBack N (placed form N g).network (placed form N g).signal.node ns
+pub placed-taken : (kind : Kind) (N : NetworkValue) (g : GateValue) (ns : List Node) → IsStored N → AreLive N (nodes_read g.fanins) → NamesOnly g.fanins (form_of kind g) → IsUndoable ns N → live_count N < live_count (placed kind N g).network → IsTakenBack N (placed kind N g).network (placed kind N g).signal.node ns
 unfolding placed
-placed-taken form N g ns stored live names may more = form-taken N g (form g) ns stored live names may more
+placed-taken kind N g ns stored live names may more = form-taken N g (form_of kind g) ns stored live names may more
 
 pub reverse-after : (ns : List Node) (n : Node) → reverse (ns ++ n ∷ []) ≡ n ∷ reverse ns
 reverse-after ns n = reverse-append ns (n ∷ [])

@@ -8,8 +8,10 @@ use Rattle.lnet_gates.specs.Gates.{GateValue, KeyValue, flip, operate, apply}
 use Rattle.lnet_gates.specs.Natives.{IsNativeGate}
 use Rattle.lnet_gates.specs.Plans.{Takes}
 use Rattle.lnet_gates.specs.Operands.{flipped}
-use Rattle.lnet_gates.specs.NormalLaws.{NormalLaws, NamesOnly, IsNativeForm, keyed_gate, form_reading}
+use Rattle.lnet_gates.specs.NormalLaws.{NamesOnly, IsNativeForm, keyed_gate, form_reading}
 use Rattle.lnet_gates.specs.Lawful.OperandLemmas.{read-flipped}
+use Rattle.lnet_gates.specs.Forms.{form_of}
+use Rattle.lnet_gates.specs.Lawful.KindLaws.{kind_laws}
 use Rattle.lnet_model.specs.Networks.{NetworkValue, IsGate, IsLive, live_count}
 use Rattle.lnet_model.specs.Along.{nodes_read}
 use Rattle.lnet_model.specs.Values.{node_value, signal_value}
@@ -50,9 +52,9 @@ grows-form N (Is s) = omega arith
 grows-form N (Gate k phase) = grows-key N k phase (found N k)
 
 -- no node goes as a gate is placed
-pub placed-grows : (form : GateValue → Normal) (N : NetworkValue) (g : GateValue) → live_count N ≤ live_count (placed form N g).network
+pub placed-grows : (kind : Kind) (N : NetworkValue) (g : GateValue) → live_count N ≤ live_count (placed kind N g).network
 unfolding placed
-placed-grows form N g = grows-form N (form g)
+placed-grows kind N g = grows-form N (form_of kind g)
 
 -- ---- at the gate that has the key
 
@@ -108,16 +110,16 @@ stands-key : (N : NetworkValue) (k : KeyValue) (phase : Bool) (o : Option Signal
 stands-key N k phase None is stored live takes few = stands-new N k phase stored live takes few
 stands-key N k phase (Some s) is stored live takes few = stands-found N k phase s stored (found-key N k s is)
 
-module _ (kind : Kind) (form : GateValue → Normal) (N : NetworkValue) (g : GateValue) (laws : NormalLaws (IsNativeGate kind) form) (stored : IsStored N) (native : IsNativeGate kind g) (live : AreLive N (nodes_read g.fanins)) where
+module _ (kind : Kind) (N : NetworkValue) (g : GateValue) (stored : IsStored N) (native : IsNativeGate kind g) (live : AreLive N (nodes_read g.fanins)) where
   -- the value of the normal form is the gate's
-  form-valued : (f : Normal) → form g ≡ f → (a : ℕ → Bool) → form_reading (node_value N a) f ≡ value_on N g a
-  form-valued f is a = ap (form_reading (node_value N a)) (sym is) ∙ laws.value (node_value N a) g (value-first N a stored.dag.acyclic stored.whole) native
+  form-valued : (f : Normal) → form_of kind g ≡ f → (a : ℕ → Bool) → form_reading (node_value N a) f ≡ value_on N g a
+  form-valued f is a = ap (form_reading (node_value N a)) (sym is) ∙ (kind_laws kind).value (node_value N a) g (value-first N a stored.dag.acyclic stored.whole) native
 
-  stands-form : (f : Normal) → form g ≡ f → live_count (placed_form N f).network ≤ NUMBERS → Stands N (value_on N g) (placed_form N f)
+  stands-form : (f : Normal) → form_of kind g ≡ f → live_count (placed_form N f).network ≤ NUMBERS → Stands N (value_on N g) (placed_form N f)
   stands-form (Is s) is few = record {
     stored = stored;
     extends = extends-self N;
-    live = elim (subst (NamesOnly g.fanins) is (laws.names g native)) as (λ _. IsLive N s.node.0) [
+    live = elim (subst (NamesOnly g.fanins) is ((kind_laws kind).names g native)) as (λ _. IsLive N s.node.0) [
       | inl named ↦ live s.node.0 (named-read s.node.0 g.fanins named)
       | inr zero ↦ subst (IsLive N) (sym zero) (first-live N stored.whole)
     ];
@@ -125,9 +127,9 @@ module _ (kind : Kind) (form : GateValue → Normal) (N : NetworkValue) (g : Gat
   }
   stands-form (Gate k phase) is few =
       stands-as N (value_on N (keyed_gate k phase)) (value_on N g) (placed_key N k phase (found N k)) (form-valued (Gate k phase) is)
-      (stands-key N k phase (found N k) refl stored (key-live N g (form g) k phase stored.whole live (laws.names g native) is) (subst (IsNativeForm (IsNativeGate kind)) is (laws.native g native)).takes few)
+      (stands-key N k phase (found N k) refl stored (key-live N g (form_of kind g) k phase stored.whole live ((kind_laws kind).names g native) is) (subst (IsNativeForm (IsNativeGate kind)) is ((kind_laws kind).native g native)).takes few)
 
   -- a gate of the kind on live fanins is placed: the signal has its value, and the rest keeps its values
-  pub placed-stands : live_count (placed form N g).network ≤ NUMBERS → Stands N (value_on N g) (placed form N g)
+  pub placed-stands : live_count (placed kind N g).network ≤ NUMBERS → Stands N (value_on N g) (placed kind N g)
   unfolding placed
-  placed-stands few = stands-form (form g) refl few
+  placed-stands few = stands-form (form_of kind g) refl few

@@ -6,6 +6,8 @@ use Rattle.lnet_gates.specs.declared.normal.Normal.TheVariants.{Is, Gate}
 use Rattle.lnet_gates.specs.Gates.{GateValue, KeyValue}
 use Rattle.lnet_gates.specs.Operands.{IsNamedBy}
 use Rattle.lnet_gates.specs.NormalLaws.{NamesOnly}
+use Rattle.lnet_gates.specs.Forms.{form_of}
+use Rattle.lnet_gates.specs.declared.gate.Kind.{Kind}
 use Rattle.lnet_model.specs.Networks.{NetworkValue, IsLive}
 use Rattle.lnet_model.specs.Along.{In, IsWhole, nodes_read}
 use Rattle.lnet_model.specs.Changes.{AreLive}
@@ -43,6 +45,6 @@ form-live N g form s whole live names is =
       | inr zero ↦ subst (IsLive N) (sym zero) (first-live N whole)
     ]
 
-pub placed-as : (form : GateValue → Normal) (N : NetworkValue) (g : GateValue) (f : Normal) → form g ≡ f → placed form N g ≡ placed_form N f
+pub placed-as : (kind : Kind) (N : NetworkValue) (g : GateValue) (f : Normal) → form_of kind g ≡ f → placed kind N g ≡ placed_form N f
 unfolding placed
-placed-as form N g f is = ap (placed_form N) is
+placed-as kind N g f is = ap (placed_form N) is

@@ -1,5 +1,5 @@
 -- What the outputs reach stays as gates that they don't reach go.
-use Rattle.std.proofs.Common.{◌≡◌, ℕ, zero, suc, ◌+◌, ◌<◌, false, true, List, [], ◌∷◌, ◌++◌, IsSome, Option, None, Some, refl, sym, subst, ◌∙◌, inl, inr, arith}
+use Rattle.std.proofs.Common.{◌≡◌, ℕ, zero, suc, ◌+◌, ◌<◌, List, [], ◌∷◌, ◌++◌, IsSome, Option, None, Some, refl, sym, subst, ◌∙◌, inl, inr, arith}
 use Rattle.std.specs.Prelude.{◌⊎◌}
 use Rattle.lnet_gates.specs.Gates.{GateValue}
 use Rattle.lnet_model.specs.Networks.{NetworkValue, Lookup, Entry, Constant, Input, IsGate, IsLive, entry_at, live_count}
@@ -10,7 +10,7 @@ use Rattle.lnet_model.specs.Levels.{level}
 use Rattle.lnet_model.specs.Dags.{IsStored}
 use Rattle.lnet_model.proofs.Changes.{without-apart}
 use Rattle.lnet_model.proofs.Removals.{left-apart}
-use Rattle.lnet_model.proofs.Stored.{same_network, joined, joined-end, live-gate, no-parent, no-output}
+use Rattle.lnet_model.proofs.Stored.{joined, joined-end, live-gate, no-parent, no-output}
 use Rattle.lnet_hashed.proofs.Unnamed.{references-none}
 use Rattle.lnet_model.proofs.Levels.{level-falls, level-small}
 use Rattle.lnet_hashed.specs.Swept.{IsReached, IsSwept, IsTrimmed, IsUnnamed}
@@ -53,9 +53,6 @@ unnamed-unreached N n free r = elim (walk-last N n r.0 r.2.0 r.2.1 r.2.2) as (λ
   | inl is ↦ no-output N n free (subst (λ z. In z (nodes_read N.outputs)) is r.1)
   | inr p ↦ no-parent N n free p.0 p.1
 ]
-
-pub trimmed-self : (N : NetworkValue) → IsTrimmed N N
-trimmed-self N = record { kind = refl; inputs = refl; outputs = refl; reached = λ n r. refl; others = λ n h. refl; left = λ n h. refl }
 
 pub trimmed-without : (N : NetworkValue) (n : ℕ) → IsUnnamed N n → IsTrimmed N (without N n)
 unfolding without
@@ -140,37 +137,3 @@ trimmed-swept N M t stored named = record {
         )
   ]) refl;
 }
-
--- ---- there is one swept network
-
-dead-live : (N : NetworkValue) (n : ℕ) → entry_at N n ≡ None → IsLive N n → ⊥
-dead-live N n none live = let z : false ≡ true = subst IsSome none live in cc
-
-module _ (N M L : NetworkValue) (s : IsSwept N M) (t : IsSwept N L) where
-  not-lost : (n : ℕ) → IsLive L n → entry_at M n ≡ None → ⊥
-  not-lost n live none = dead-live L n (t.trimmed.left n live ∙ sym (s.trimmed.others n other) ∙ none) live
-    where
-      unreached : IsGateAt N n → IsReached N n → ⊥
-      unreached gate r = dead-live N n (sym (s.trimmed.reached n r) ∙ none) (live-gate N n gate)
-
-      other : IsGateAt N n → ⊥
-      other gate = dead-live L n (t.gone n gate (unreached gate)) live
-
-module _ (N M L : NetworkValue) (s : IsSwept N M) (t : IsSwept N L) where
-  entry-once : (n : ℕ) → entry_at M n ≡ entry_at L n
-  entry-once n = (elim (entry_at M n) as (λ o. entry_at M n ≡ o → entry_at M n ≡ entry_at L n) [
-    | None ↦ λ m. (elim (entry_at L n) as (λ o. entry_at L n ≡ o → entry_at M n ≡ entry_at L n) [
-      | None ↦ λ l. m ∙ sym l
-      | Some e ↦ λ l. absurd (not-lost N M L s t n (subst IsSome (sym l) refl) m)
-    ]) refl
-    | Some e ↦ λ m. (
-        let live : IsLive M n = subst IsSome (sym m) refl in
-        (elim (entry_at L n) as (λ o. entry_at L n ≡ o → entry_at M n ≡ entry_at L n) [
-          | None ↦ λ l. absurd (not-lost N L M t s n live l)
-          | Some f ↦ λ l. s.trimmed.left n live ∙ sym (t.trimmed.left n (subst IsSome (sym l) refl))
-        ]) refl
-        )
-  ]) refl
-
-  pub swept-once : M ≡ L
-  swept-once = same_network M L (s.trimmed.kind ∙ sym t.trimmed.kind) (s.trimmed.inputs ∙ sym t.trimmed.inputs) (s.trimmed.outputs ∙ sym t.trimmed.outputs) entry-once

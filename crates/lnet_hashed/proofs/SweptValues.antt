@@ -5,7 +5,6 @@ use Rattle.lnet_gates.specs.Gates.{flip}
 use Rattle.lnet_model.specs.Networks.{NetworkValue, entry_at, live_count}
 use Rattle.lnet_model.specs.Along.{along, over, In, Acyclic, nodes_read}
 use Rattle.lnet_model.specs.Values.{value_step, node_value, signal_value, network_outputs}
-use Rattle.lnet_model.specs.Levels.{greatest, level, level_step, depth}
 use Rattle.lnet_model.specs.Dags.{IsStored}
 use Rattle.lnet_model.proofs.Along.{Step, once-same}
 use Rattle.lnet_model.proofs.Over.{once-entry}
@@ -17,10 +16,6 @@ use Rattle.lnet_hashed.proofs.Reached.{reached-output, reached-fanin, walk-back}
 values-same : (N M : NetworkValue) (a : ℕ → Bool) (ss : List Signal) → ((n : ℕ) → In n (nodes_read ss) → node_value M a n ≡ node_value N a n) → map (signal_value M a) ss ≡ map (signal_value N a) ss
 values-same N M a [] same = refl
 values-same N M a (s ∷ ss) same = λ i. flip s.complement (same s.node.0 (inl refl) i) ∷ values-same N M a ss (λ n k. same n (inr k)) i
-
-levels-same : (V W : ℕ → ℕ) (ns : List ℕ) → ((n : ℕ) → In n ns → V n ≡ W n) → map V ns ≡ map W ns
-levels-same V W [] same = refl
-levels-same V W (n ∷ ns) same = λ i. same n (inl refl) i ∷ levels-same V W ns (λ m k. same m (inr k)) i
 
 module _ (N M : NetworkValue) (t : IsTrimmed N M) (stored : IsStored N) where
   acyclic-left : Acyclic M
@@ -50,10 +45,3 @@ module _ (N M : NetworkValue) (t : IsTrimmed N M) (stored : IsStored N) where
   outputs-kept a =
       ap (map (signal_value M a)) t.outputs
       ∙ values-same N M a N.outputs (λ n i. over-kept (value_step a) false n (output-reached n i))
-
-  -- the depth
-  pub depth-kept : depth M ≡ depth N
-  unfolding depth
-  depth-kept =
-      ap (λ os. greatest (map (level M) (nodes_read os))) t.outputs
-      ∙ ap greatest (levels-same (level M) (level N) (nodes_read N.outputs) (λ n i. over-kept level_step 0 n (output-reached n i)))

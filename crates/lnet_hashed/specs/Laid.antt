@@ -9,7 +9,6 @@ use Rattle.lnet_tables.specs.Recipes.{RecipeValue, place}
 use Rattle.lnet_gates.specs.declared.signal.Signal.{Signal}
 use Rattle.lnet_gates.specs.declared.gate.Kind.{Kind}
 use Rattle.lnet_gates.specs.declared.gate.Op.{Op}
-use Rattle.lnet_gates.specs.declared.normal.Normal.{Normal}
 use Rattle.lnet_gates.specs.declared.planning.Plan.{Plan}
 use Rattle.lnet_gates.specs.declared.planning.Plan.TheVariants.{Native, Steps}
 use Rattle.lnet_gates.specs.Gates.{GateValue}
@@ -38,23 +37,23 @@ pub record Laid : Type 0 where
   pub places : List Signal
 
 -- the steps one after another, each placed
-unfoldable pub laid_steps : (GateValue → Normal) → List Step → NetworkValue → List Signal → Laid
-laid_steps form [] N places = record { network = N; places = places }
-laid_steps form (s ∷ ss) N places =
-    let p : Placed = placed form N (step_gate places s) in
-    laid_steps form ss p.network (places ++ p.signal ∷ [])
+unfoldable pub laid_steps : Kind → List Step → NetworkValue → List Signal → Laid
+laid_steps kind [] N places = record { network = N; places = places }
+laid_steps kind (s ∷ ss) N places =
+    let p : Placed = placed kind N (step_gate places s) in
+    laid_steps kind ss p.network (places ++ p.signal ∷ [])
 
 -- a recipe of native steps over these leaves
-abbrev pub laid : (GateValue → Normal) → NetworkValue → RecipeValue → List Signal → Placed
-laid form N r leaves =
-    let l : Laid = laid_steps form r.steps N (constant false ∷ leaves) in
+abbrev pub laid : Kind → NetworkValue → RecipeValue → List Signal → Placed
+laid kind N r leaves =
+    let l : Laid = laid_steps kind r.steps N (constant false ∷ leaves) in
     record { network = l.network; signal = signal_at l.places r.root }
 
 -- an operation on operands by its plan: as a gate where it is native, and else by the plan's steps
-abbrev pub by_plan : (GateValue → Normal) → NetworkValue → Op → List Signal → Plan → Placed
-by_plan form N op operands Native = placed form N (record { op = op; phase = false; fanins = operands })
-by_plan form N op operands (Steps r) = laid form N r operands
+abbrev pub by_plan : Kind → NetworkValue → Op → List Signal → Plan → Placed
+by_plan kind N op operands Native = placed kind N (record { op = op; phase = false; fanins = operands })
+by_plan kind N op operands (Steps r) = laid kind N r operands
 
 -- what a network of the kind has after an operation on operands is made, and the operation's signal
-unfoldable pub made : Kind → (GateValue → Normal) → NetworkValue → Op → List Signal → Placed
-made kind form N op operands = by_plan form N op operands (plan_of kind op (length operands))
+unfoldable pub made : Kind → NetworkValue → Op → List Signal → Placed
+made kind N op operands = by_plan kind N op operands (plan_of kind op (length operands))

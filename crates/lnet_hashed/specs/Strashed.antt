@@ -13,6 +13,7 @@ use Rattle.lnet_gates.specs.Gates.{GateValue, KeyValue}
 use Rattle.lnet_gates.specs.Operands.{flipped, is_same}
 use Rattle.lnet_gates.specs.Natives.{IsNativeGate}
 use Rattle.lnet_gates.specs.NormalLaws.{keyed_gate}
+use Rattle.lnet_gates.specs.Forms.{form_of}
 use Rattle.lnet_model.specs.Networks.{NetworkValue, Entry, gate_at, Constant, Input, IsGate}
 use Rattle.lnet_model.specs.Changes.{GateAt, with_entry}
 
@@ -25,9 +26,9 @@ abbrev pub key_of : GateValue → KeyValue
 key_of g = record { op = g.op; fanins = g.fanins }
 
 -- each gate is one of the kind and its own normal form, an And has no phase, and no two gates have one key
-pub record IsStrashed (kind : Kind) (form : GateValue → Normal) (N : NetworkValue) : Type 0 where
+pub record IsStrashed (kind : Kind) (N : NetworkValue) : Type 0 where
   pub native : (n : ℕ) (g : GateValue) → GateAt N n g → IsNativeGate kind g
-  pub own_form : (n : ℕ) (g : GateValue) → GateAt N n g → form g ≡ Gate (key_of g) g.phase
+  pub own_form : (n : ℕ) (g : GateValue) → GateAt N n g → form_of kind g ≡ Gate (key_of g) g.phase
   pub and_phase : (n : ℕ) (g : GateValue) → GateAt N n g → g.op ≡ And → g.phase ≡ false
   pub apart : (m n : ℕ) (g h : GateValue) → GateAt N m g → GateAt N n h → key_of g ≡ key_of h → m ≡ n
 
@@ -95,5 +96,5 @@ placed_form N (Is s) = record { network = N; signal = s }
 placed_form N (Gate k phase) = placed_key N k phase (found N k)
 
 -- where a gate is placed: at the signal that its normal form is, at the gate that has its key, or newly
-unfoldable pub placed : (GateValue → Normal) → NetworkValue → GateValue → Placed
-placed form N g = placed_form N (form g)
+unfoldable pub placed : Kind → NetworkValue → GateValue → Placed
+placed kind N g = placed_form N (form_of kind g)

@@ -19,11 +19,8 @@ use crate::keys::{Keys, lengthen};
 use crate::making::gate_of;
 use crate::watch::Watch;
 use lnet_gates::{Gate, Key, Node, Op, Signal};
-use lnet_store::{AddError, Event, Store, View};
+use lnet_store::{AddError, Event, NUMBER_LIMIT, Store, View};
 use std::alloc::{AllocError, Global};
-
-/// How many numbers a network can have.
-pub(crate) const LIMIT: u32 = 1048576;
 
 /// A store, the keys of its gates, and for how many numbers, from 0, the store, the keys, the marks and each of the views have
 /// memory.
@@ -162,10 +159,10 @@ pub(crate) fn make_room(hashed: &mut Hashed, watch: &mut Watch) -> Result<(), Ad
     if live < hashed.room {
         return Ok(());
     }
-    if live == LIMIT {
+    if live == NUMBER_LIMIT {
         return Err(AddError::Full);
     }
-    let numbers = (2 * live).min(LIMIT);
+    let numbers = (2 * live).min(NUMBER_LIMIT);
     match reserve(hashed, watch, numbers) {
         Ok(()) => Ok(()),
         Err(_) => Err(AddError::NoMemory),

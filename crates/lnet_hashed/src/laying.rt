@@ -94,7 +94,7 @@ fn place_noting<G: Gates>(
     requires few { length added.old.items < 128 }
     requires room { HasRoom hashed.old }
     requires fit { AreFitBy ⟦<dyn View as View>⟧ hashed.old.store.network hashed.old.room watch.old }
-    ensures placed { IfOk result (λ s. placed G.form hashed.old.store.network gate.now ≡ record { network = hashed.new.store.network; signal = s }) }
+    ensures placed { IfOk result (λ s. placed G.KIND hashed.old.store.network gate.now ≡ record { network = hashed.new.store.network; signal = s }) }
     ensures live { IfOk result (λ s. IsLive hashed.new.store.network s.node.0) }
     ensures lives { (m : ℕ) → IsLive hashed.old.store.network m → IsLive hashed.new.store.network m }
     ensures few { length added.new.items ≤ length added.old.items + 1 }
@@ -102,8 +102,8 @@ fn place_noting<G: Gates>(
     ensures undone { undone (reverse added.new.items) hashed.new.store.network ≡ undone (reverse added.old.items) hashed.old.store.network }
     ensures room { HasRoom hashed.new }
     ensures grows { hashed.old.room ≤ hashed.new.room }
-    ensures full { result ≡ Err AddError.Full → NUMBERS < live_count (placed G.form hashed.old.store.network gate.now).network }
-    ensures memory { result ≡ Err AddError.NoMemory → hashed.old.room < min NUMBERS (live_count (placed G.form hashed.old.store.network gate.now).network) }
+    ensures full { result ≡ Err AddError.Full → NUMBERS < live_count (placed G.KIND hashed.old.store.network gate.now).network }
+    ensures memory { result ≡ Err AddError.NoMemory → hashed.old.room < min NUMBERS (live_count (placed G.KIND hashed.old.store.network gate.now).network) }
     ensures told { AreToldBy ⟦<dyn View as View>⟧ hashed.new.store.network hashed.new.room watch.old watch.new }
 {
     let before = hashed.store.live_count();
@@ -132,7 +132,7 @@ fn lay_step<G: Gates>(
     requires few_places { length laying.old.places.items < 256 }
     requires room { HasRoom hashed.old }
     requires fit { AreFitBy ⟦<dyn View as View>⟧ hashed.old.store.network hashed.old.room watch.old }
-    ensures laid { OnOk result ((ss : List StepValue) → laid_steps G.form (step.now ∷ ss) hashed.old.store.network laying.old.places.items ≡ laid_steps G.form ss hashed.new.store.network laying.new.places.items) }
+    ensures laid { OnOk result ((ss : List StepValue) → laid_steps G.KIND (step.now ∷ ss) hashed.old.store.network laying.old.places.items ≡ laid_steps G.KIND ss hashed.new.store.network laying.new.places.items) }
     ensures live { AreLive hashed.new.store.network (nodes_read laying.new.places.items) }
     ensures few { length laying.new.added.items ≤ length laying.old.added.items + 1 }
     ensures places { OnOk result (length laying.new.places.items ≡ length laying.old.places.items + 1) }
@@ -140,8 +140,8 @@ fn lay_step<G: Gates>(
     ensures undone { undone (reverse laying.new.added.items) hashed.new.store.network ≡ undone (reverse laying.old.added.items) hashed.old.store.network }
     ensures room { HasRoom hashed.new }
     ensures grows { hashed.old.room ≤ hashed.new.room }
-    ensures full { result ≡ Err AddError.Full → (ss : List StepValue) → NUMBERS < live_count (laid_steps G.form (step.now ∷ ss) hashed.old.store.network laying.old.places.items).network }
-    ensures memory { result ≡ Err AddError.NoMemory → (ss : List StepValue) → hashed.old.room < min NUMBERS (live_count (laid_steps G.form (step.now ∷ ss) hashed.old.store.network laying.old.places.items).network) }
+    ensures full { result ≡ Err AddError.Full → (ss : List StepValue) → NUMBERS < live_count (laid_steps G.KIND (step.now ∷ ss) hashed.old.store.network laying.old.places.items).network }
+    ensures memory { result ≡ Err AddError.NoMemory → (ss : List StepValue) → hashed.old.room < min NUMBERS (live_count (laid_steps G.KIND (step.now ∷ ss) hashed.old.store.network laying.old.places.items).network) }
     ensures told { AreToldBy ⟦<dyn View as View>⟧ hashed.new.store.network hashed.new.room watch.old watch.new }
 {
     let _live = hashed.store.live_count();
@@ -185,12 +185,12 @@ pub fn lay<G: Gates>(
     requires few { length leaves.now ≤ 10 }
     requires room { HasRoom hashed.old }
     requires fit { AreFitBy ⟦<dyn View as View>⟧ hashed.old.store.network hashed.old.room watch.old }
-    ensures laid { IfOk result (λ s. laid G.form hashed.old.store.network recipe.now leaves.now ≡ record { network = hashed.new.store.network; signal = s }) }
+    ensures laid { IfOk result (λ s. laid G.KIND hashed.old.store.network recipe.now leaves.now ≡ record { network = hashed.new.store.network; signal = s }) }
     ensures refused { OnErr result (hashed.new.store.network ≡ hashed.old.store.network) }
     ensures room { HasRoom hashed.new }
     ensures grows { hashed.old.room ≤ hashed.new.room }
-    ensures full { result ≡ Err AddError.Full → NUMBERS < live_count (laid G.form hashed.old.store.network recipe.now leaves.now).network }
-    ensures memory { result ≡ Err AddError.NoMemory → hashed.old.room < min NUMBERS (live_count (laid G.form hashed.old.store.network recipe.now leaves.now).network) }
+    ensures full { result ≡ Err AddError.Full → NUMBERS < live_count (laid G.KIND hashed.old.store.network recipe.now leaves.now).network }
+    ensures memory { result ≡ Err AddError.NoMemory → hashed.old.room < min NUMBERS (live_count (laid G.KIND hashed.old.store.network recipe.now leaves.now).network) }
     ensures told { AreToldBy ⟦<dyn View as View>⟧ hashed.new.store.network hashed.new.room watch.old watch.new }
 {
     let _live = hashed.store.live_count();

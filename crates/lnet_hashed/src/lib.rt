@@ -5,10 +5,8 @@ ghost use Rattle.std.specs.Prelude.{◌≡◌, ◌≤◌, ℕ, Bool, List, lengt
 ghost use Rattle.lnet_gates.specs.declared.gate.Kind.{Kind};
 ghost use Rattle.lnet_gates.specs.declared.gate.Op.{Op as Operation};
 ghost use Rattle.lnet_gates.specs.declared.signal.Signal.{Signal as SignalValue};
-ghost use Rattle.lnet_gates.specs.declared.normal.Normal.{Normal};
-ghost use Rattle.lnet_gates.specs.Gates.{GateValue, operate};
-ghost use Rattle.lnet_gates.specs.Natives.{IsNativeGate, FitsWord};
-ghost use Rattle.lnet_gates.specs.NormalLaws.{NormalLaws};
+ghost use Rattle.lnet_gates.specs.Gates.{operate};
+ghost use Rattle.lnet_gates.specs.Natives.{FitsWord};
 ghost use Rattle.lnet_gates.specs.Plans.{Takes};
 ghost use Rattle.lnet_model.specs.Networks.{NetworkValue, IsLive, entry_at, live_count};
 ghost use Rattle.lnet_model.specs.Along.{nodes_read};
@@ -41,8 +39,8 @@ pub use watch::Watch;
 /// An operation that is made on live operands computes the operation, and nothing that was live changes. A network whose
 /// gates are hashed stays so.
 pub fn made_operations()
-    ensures value { (kind : Kind) (form : GateValue → Normal) (N : NetworkValue) (op : Operation) (operands : List SignalValue) → NormalLaws (IsNativeGate kind) form → Takes op (length operands) → FitsWord op → IsStored N → AreLive N (nodes_read operands) → live_count (made kind form N op operands).network ≤ NUMBERS → (a : ℕ → Bool) → signal_value (made kind form N op operands).network a (made kind form N op operands).signal ≡ operate op (map (signal_value N a) operands) }
-    ensures entries { (kind : Kind) (form : GateValue → Normal) (N : NetworkValue) (op : Operation) (operands : List SignalValue) → NormalLaws (IsNativeGate kind) form → Takes op (length operands) → FitsWord op → IsStored N → AreLive N (nodes_read operands) → live_count (made kind form N op operands).network ≤ NUMBERS → (n : ℕ) → IsLive N n → entry_at (made kind form N op operands).network n ≡ entry_at N n }
-    ensures values { (kind : Kind) (form : GateValue → Normal) (N : NetworkValue) (op : Operation) (operands : List SignalValue) → NormalLaws (IsNativeGate kind) form → Takes op (length operands) → FitsWord op → IsStored N → AreLive N (nodes_read operands) → live_count (made kind form N op operands).network ≤ NUMBERS → (a : ℕ → Bool) (n : ℕ) → IsLive N n → node_value (made kind form N op operands).network a n ≡ node_value N a n }
-    ensures strashed { (kind : Kind) (form : GateValue → Normal) (N : NetworkValue) (op : Operation) (operands : List SignalValue) → NormalLaws (IsNativeGate kind) form → Takes op (length operands) → FitsWord op → IsStrashed kind form N → IsStrashed kind form (made kind form N op operands).network }
+    ensures value { (kind : Kind) (N : NetworkValue) (op : Operation) (operands : List SignalValue) → Takes op (length operands) → FitsWord op → IsStored N → AreLive N (nodes_read operands) → live_count (made kind N op operands).network ≤ NUMBERS → (a : ℕ → Bool) → signal_value (made kind N op operands).network a (made kind N op operands).signal ≡ operate op (map (signal_value N a) operands) }
+    ensures entries { (kind : Kind) (N : NetworkValue) (op : Operation) (operands : List SignalValue) → Takes op (length operands) → FitsWord op → IsStored N → AreLive N (nodes_read operands) → live_count (made kind N op operands).network ≤ NUMBERS → (n : ℕ) → IsLive N n → entry_at (made kind N op operands).network n ≡ entry_at N n }
+    ensures values { (kind : Kind) (N : NetworkValue) (op : Operation) (operands : List SignalValue) → Takes op (length operands) → FitsWord op → IsStored N → AreLive N (nodes_read operands) → live_count (made kind N op operands).network ≤ NUMBERS → (a : ℕ → Bool) (n : ℕ) → IsLive N n → node_value (made kind N op operands).network a n ≡ node_value N a n }
+    ensures strashed { (kind : Kind) (N : NetworkValue) (op : Operation) (operands : List SignalValue) → Takes op (length operands) → FitsWord op → IsStrashed kind N → IsStrashed kind (made kind N op operands).network }
 {}

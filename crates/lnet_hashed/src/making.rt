@@ -57,12 +57,12 @@ pub fn make<G: Gates>(
     requires live { AreLive hashed.old.store.network (nodes_read operands.now) }
     requires room { HasRoom hashed.old }
     requires fit { AreFitBy ⟦<dyn View as View>⟧ hashed.old.store.network hashed.old.room watch.old }
-    ensures made { IfOk result (λ s. made G.KIND G.form hashed.old.store.network op operands.now ≡ record { network = hashed.new.store.network; signal = s }) }
+    ensures made { IfOk result (λ s. made G.KIND hashed.old.store.network op operands.now ≡ record { network = hashed.new.store.network; signal = s }) }
     ensures refused { OnErr result (hashed.new.store.network ≡ hashed.old.store.network) }
     ensures room { HasRoom hashed.new }
     ensures grows { hashed.old.room ≤ hashed.new.room }
-    ensures full { result ≡ Err AddError.Full → NUMBERS < live_count (made G.KIND G.form hashed.old.store.network op operands.now).network }
-    ensures memory { result ≡ Err AddError.NoMemory → hashed.old.room < min NUMBERS (live_count (made G.KIND G.form hashed.old.store.network op operands.now).network) }
+    ensures full { result ≡ Err AddError.Full → NUMBERS < live_count (made G.KIND hashed.old.store.network op operands.now).network }
+    ensures memory { result ≡ Err AddError.NoMemory → hashed.old.room < min NUMBERS (live_count (made G.KIND hashed.old.store.network op operands.now).network) }
     ensures told { AreToldBy ⟦<dyn View as View>⟧ hashed.new.store.network hashed.new.room watch.old watch.new }
 {
     match G::plan(&op, operands.len() as u8) {

@@ -61,13 +61,13 @@ pub fn place<G: Gates>(
     requires live { AreLive hashed.old.store.network (nodes_read gate.now.fanins) }
     requires room { HasRoom hashed.old }
     requires fit { AreFitBy ⟦<dyn View as View>⟧ hashed.old.store.network hashed.old.room watch.old }
-    ensures placed { IfOk result (λ s. placed G.form hashed.old.store.network gate.now ≡ record { network = hashed.new.store.network; signal = s }) }
+    ensures placed { IfOk result (λ s. placed G.KIND hashed.old.store.network gate.now ≡ record { network = hashed.new.store.network; signal = s }) }
     ensures live { IfOk result (λ s. IsLive hashed.new.store.network s.node.0) }
     ensures room { HasRoom hashed.new }
     ensures grows { hashed.old.room ≤ hashed.new.room }
     ensures refused { OnErr result ((hashed.new.store.network ≡ hashed.old.store.network) × (hashed.new.store.stamp ≡ hashed.old.store.stamp)) }
-    ensures full { (result ≡ Err AddError.Full) ↔ (NUMBERS < live_count (placed G.form hashed.old.store.network gate.now).network) }
-    ensures memory { result ≡ Err AddError.NoMemory → hashed.old.room < min NUMBERS (live_count (placed G.form hashed.old.store.network gate.now).network) }
+    ensures full { (result ≡ Err AddError.Full) ↔ (NUMBERS < live_count (placed G.KIND hashed.old.store.network gate.now).network) }
+    ensures memory { result ≡ Err AddError.NoMemory → hashed.old.room < min NUMBERS (live_count (placed G.KIND hashed.old.store.network gate.now).network) }
     ensures told { AreToldBy ⟦<dyn View as View>⟧ hashed.new.store.network hashed.new.room watch.old watch.new }
 {
     let _live = hashed.store.live_count();

@@ -12,5 +12,6 @@ pub mod Rising
 pub mod Stored
 pub mod References
 pub mod WorkedRows
+mod WorkedVisits
 pub mod Removals
 pub mod Settings

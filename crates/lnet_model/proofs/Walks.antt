@@ -1,7 +1,7 @@
 -- Walks of a network without cycles are no longer than its live nodes are many.
-use Rattle.std.proofs.Common.{◌≡◌, ℕ, ◌<◌, ◌≤◌, List, [], ◌∷◌, IsSome, sym, ap, subst, inl, inr, arith}
+use Rattle.std.proofs.Common.{◌≡◌, ℕ, List, [], ◌∷◌, IsSome, sym, subst, inl, inr, arith}
 use Rattle.lnet_model.specs.Networks.{NetworkValue, Lookup, entry_at, live_count}
-use Rattle.lnet_model.specs.Along.{In, fanin_nodes, IsWalk, end_of, NoCycle, Acyclic}
+use Rattle.lnet_model.specs.Along.{In, IsWalk, end_of, NoCycle, Acyclic}
 use Rattle.lnet_model.proofs.Along.{Short}
 use Rattle.lnet_model.proofs.Map.{Apart, count_apart}
 
@@ -27,15 +27,3 @@ unfolding entry_at live_count
 short_walks N acyclic n ns w =
     let few = count_apart (n ∷ ns) N.nodes (walk_apart _ acyclic n ns w) (walk_live _ n ns w) in
     omega arith
-
-ranks_fall : (g : Lookup) (r : ℕ → ℕ) → ((n m : ℕ) → In m (fanin_nodes (g n)) → r m < r n) → (n : ℕ) (ns : List ℕ) → IsWalk g n ns → r (end_of n ns) ≤ r n
-ranks_fall g r falls n [] w = omega arith
-ranks_fall g r falls n (m ∷ ns) w = let a = falls n m w.1 in let b = ranks_fall g r falls m ns w.2 in omega arith
-
--- where each fanin has a lower rank there is no cycle
-pub ranked-NoCycle : (g : Lookup) (r : ℕ → ℕ) → ((n m : ℕ) → In m (fanin_nodes (g n)) → r m < r n) → NoCycle g
-ranked-NoCycle g r falls n m ns w is =
-    let a = falls n m w.1 in
-    let b = ranks_fall g r falls m ns w.2 in
-    let c = ap r is in
-    absurd (omega arith)

@@ -13,7 +13,7 @@ use Rattle.lnet_model.specs.Fanouts.{fan, references, slots_naming}
 use Rattle.lnet_model.specs.Cuts.{cuts}
 use Rattle.lnet_model.specs.Worked.{signal, worked_entries, worked_network, cut}
 
-worked-at : entry_at worked_network ≡ (λ n. find nat_cmp n worked_entries)
+pub worked-at : entry_at worked_network ≡ (λ n. find nat_cmp n worked_entries)
 unfolding worked_network entry_at
 worked-at i n = get-from_sorted nat_cmp worked_entries n tt i
 
@@ -21,7 +21,7 @@ worked-count : live_count worked_network ≡ 11
 unfolding worked_network live_count
 worked-count = len-entries (from_sorted worked_entries) ∙ ap length (entries-from_sorted nat_cmp worked_entries tt)
 
-over-worked : {A : Type 0} (step : ℕ → Entry → List (Signal × A) → A) (none : A) (n : ℕ) → over worked_network step none n ≡ along (λ k. find nat_cmp k worked_entries) step none 11 n
+pub over-worked : {A : Type 0} (step : ℕ → Entry → List (Signal × A) → A) (none : A) (n : ℕ) → over worked_network step none n ≡ along (λ k. find nat_cmp k worked_entries) step none 11 n
 unfolding over
 over-worked step none n i = along (worked-at i) step none (worked-count i) n
 

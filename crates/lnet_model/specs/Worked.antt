@@ -10,6 +10,8 @@ use Rattle.lnet_gates.specs.declared.gate.Op.TheVariants.{And}
 use Rattle.lnet_gates.specs.declared.gate.Kind.TheVariants.{Aig}
 use Rattle.lnet_model.specs.Networks.{Entry, Constant, Input, IsGate, NetworkValue}
 use Rattle.lnet_model.specs.Cuts.{CutValue}
+use Rattle.lnet_model.specs.declared.event.Event.{Event}
+use Rattle.lnet_model.specs.declared.event.Event.TheVariants.{Modified}
 
 abbrev pub signal : ℕ → Bool → Signal
 signal n c = record { node = record { 0 = n }; complement = c }
@@ -24,6 +26,10 @@ worked_entries =
 
 unfoldable pub worked_network : NetworkValue
 worked_network = record { kind = Aig; nodes = from_sorted {R = nat_cmp} worked_entries; inputs = 1 ∷ 2 ∷ 3 ∷ 4 ∷ []; outputs = signal 8 false ∷ signal 10 true ∷ [] }
+
+-- the gate at 9 was the And of nodes 3 and 6, and so a level higher
+abbrev pub worked_event : Event
+worked_event = Modified (record { 0 = 9 }) (record { op = And; phase = false; fanins = signal 3 false ∷ signal 6 false ∷ [] })
 
 -- a cut by the number of its table
 abbrev pub cut : List ℕ → ℕ → CutValue

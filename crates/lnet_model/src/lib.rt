@@ -10,7 +10,9 @@ ghost use Rattle.lnet_model.specs.Levels.{greatest, level_step, level, depth};
 ghost use Rattle.lnet_model.specs.Fanouts.{fan, references, IsParent};
 ghost use Rattle.lnet_model.specs.Cuts.{cuts};
 ghost use Rattle.lnet_model.specs.Changes.{with_entry, without, AreLive};
-ghost use Rattle.lnet_model.specs.Worked.{worked_network, cut};
+ghost use Rattle.lnet_model.specs.Visits.{visit_bound};
+ghost use Rattle.lnet_model.specs.Worked.{worked_event, worked_network, cut};
+ghost use Rattle.lnet_model.specs.declared.view_spec.ViewSpec.TheVariants.{Depth, Fanout, Cuts};
 
 mod cut;
 mod event;
@@ -60,8 +62,9 @@ pub fn levels_by_their_equation()
     ensures small { (N : NetworkValue) (n : ℕ) → level N n ≤ live_count N }
 {}
 
-/// The definitions at the worked network: levels and the depth, the outputs where each input is true, a fanout and references, and the cuts of node 10 with up to 3 leaves and 4 cuts, and with
-/// up to 4 leaves and 8 cuts.
+/// The definitions at the worked network: levels and the depth, the outputs where each input is true, a fanout and references, the
+/// cuts of node 10 with up to 3 leaves and 4 cuts, and with up to 4 leaves and 8 cuts, and how often a view may read it after a
+/// change at node 9: none, a depth view, a fanout view and a cut view. There nodes 9 and 10 have a new answer, and node 9 one parent.
 pub fn worked_rows()
     ensures levels { map (level worked_network) (0 ∷ 4 ∷ 5 ∷ 6 ∷ 7 ∷ 8 ∷ 9 ∷ 10 ∷ []) ≡ 0 ∷ 0 ∷ 1 ∷ 2 ∷ 3 ∷ 4 ∷ 2 ∷ 3 ∷ [] }
     ensures depth { depth worked_network ≡ 4 }
@@ -70,4 +73,5 @@ pub fn worked_rows()
     ensures references { map (references worked_network) (5 ∷ 8 ∷ 9 ∷ []) ≡ 2 ∷ 1 ∷ 1 ∷ [] }
     ensures narrow { cuts worked_network 3 4 10 ≡ cut (4 ∷ 9 ∷ []) 8 ∷ cut (3 ∷ 4 ∷ 5 ∷ []) 128 ∷ cut (10 ∷ []) 2 ∷ [] }
     ensures wide { cuts worked_network 4 8 10 ≡ cut (4 ∷ 9 ∷ []) 8 ∷ cut (3 ∷ 4 ∷ 5 ∷ []) 128 ∷ cut (1 ∷ 2 ∷ 3 ∷ 4 ∷ []) 32768 ∷ cut (10 ∷ []) 2 ∷ [] }
+    ensures visits { map (visit_bound worked_event worked_network) (None ∷ Some Depth ∷ Some Fanout ∷ Some (Cuts (record { size = 3; limit = 4 })) ∷ []) ≡ 0 ∷ 3 ∷ 1 ∷ 3 ∷ [] }
 {}

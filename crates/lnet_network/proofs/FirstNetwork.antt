@@ -1,7 +1,6 @@
 -- The network of node 0 alone has no gate.
 use Rattle.std.proofs.Common.{◌≡◌, ℕ, ◌<◌, [], IsSome, Some, refl, sym, ap, subst, ◌∙◌, arith}
 use Rattle.lnet_gates.specs.declared.gate.Kind.{Kind}
-use Rattle.lnet_gates.specs.declared.normal.Normal.{Normal}
 use Rattle.lnet_gates.specs.Gates.{GateValue}
 use Rattle.lnet_model.specs.Networks.{Constant, IsGate, entry_at}
 use Rattle.lnet_model.specs.Changes.{GateAt}
@@ -18,8 +17,8 @@ no-gate n g e =
     let two : Some Constant ≡ Some (IsGate g) = sym first ∙ ap (entry_at first_network) (sym zero) ∙ e in
     cc
 
-pub first-strashed : (kind : Kind) (form : GateValue → Normal) → IsStrashed kind form first_network
-first-strashed kind form = record {
+pub first-strashed : (kind : Kind) → IsStrashed kind first_network
+first-strashed kind = record {
   native = λ n g e. absurd (no-gate n g e);
   own_form = λ n g e. absurd (no-gate n g e);
   and_phase = λ n g e. absurd (no-gate n g e);

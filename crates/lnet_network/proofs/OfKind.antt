@@ -12,10 +12,10 @@ use Rattle.lnet_gates.specs.declared.planning.Plan.TheVariants.{Native, Steps}
 use Rattle.lnet_gates.specs.declared.signal.Signal.{Signal}
 use Rattle.lnet_gates.specs.declared.signal.Node.{Node}
 use Rattle.lnet_gates.specs.Gates.{GateValue, KeyValue}
-use Rattle.lnet_gates.specs.NormalLaws.{NormalLaws}
 use Rattle.lnet_gates.specs.Operands.{constant}
-use Rattle.lnet_gates.specs.Natives.{IsNativeGate, FitsWord}
+use Rattle.lnet_gates.specs.Natives.{FitsWord}
 use Rattle.lnet_gates.specs.Plans.{Takes, plan_of}
+use Rattle.lnet_gates.specs.Forms.{form_of}
 use Rattle.lnet_model.specs.Networks.{NetworkValue, entry_at, live_count}
 use Rattle.lnet_model.specs.Along.{over}
 use Rattle.lnet_model.specs.Changes.{with_entry, AreLive}
@@ -63,35 +63,35 @@ form-kind : (kind : Kind) (N : NetworkValue) (f : Normal) → placed_form (of_ki
 form-kind kind N (Is s) = refl
 form-kind kind N (Gate k phase) = ap (placed_key (of_kind kind N) k phase) (found-kind kind N k) ∙ key-kind kind N k phase (found N k)
 
-pub placed-kind : (kind : Kind) (form : GateValue → Normal) (N : NetworkValue) (g : GateValue) → placed form (of_kind kind N) g ≡ kinded kind (placed form N g)
+pub placed-kind : (kind : Kind) (N : NetworkValue) (g : GateValue) → placed kind (of_kind kind N) g ≡ kinded kind (placed kind N g)
 unfolding placed
-placed-kind kind form N g = form-kind kind N (form g)
+placed-kind kind N g = form-kind kind N (form_of kind g)
 
 abbrev laid-in : Kind → Laid → Laid
 laid-in kind l = record { network = of_kind kind l.network; places = l.places }
 
 steps-kind :
-    (kind : Kind) (form : GateValue → Normal) (ss : List Step) (N : NetworkValue) (places : List Signal) → laid_steps form ss (of_kind kind N) places ≡ laid-in kind (laid_steps form ss N places)
+    (kind : Kind) (ss : List Step) (N : NetworkValue) (places : List Signal) → laid_steps kind ss (of_kind kind N) places ≡ laid-in kind (laid_steps kind ss N places)
 unfolding laid_steps
-steps-kind kind form [] N places = refl
-steps-kind kind form (s ∷ ss) N places =
-    let p : Placed = placed form N (step_gate places s) in
-    ap (λ (q : Placed). laid_steps form ss q.network (places ++ q.signal ∷ [])) (placed-kind kind form N (step_gate places s))
-    ∙ steps-kind kind form ss p.network (places ++ p.signal ∷ [])
+steps-kind kind [] N places = refl
+steps-kind kind (s ∷ ss) N places =
+    let p : Placed = placed kind N (step_gate places s) in
+    ap (λ (q : Placed). laid_steps kind ss q.network (places ++ q.signal ∷ [])) (placed-kind kind N (step_gate places s))
+    ∙ steps-kind kind ss p.network (places ++ p.signal ∷ [])
 
-laid-kind : (kind : Kind) (form : GateValue → Normal) (N : NetworkValue) (r : RecipeValue) (leaves : List Signal) → laid form (of_kind kind N) r leaves ≡ kinded kind (laid form N r leaves)
-laid-kind kind form N r leaves = ap (λ (l : Laid). record { network = l.network; signal = signal_at l.places r.root }) (steps-kind kind form r.steps N (constant Bool.false ∷ leaves))
+laid-kind : (kind : Kind) (N : NetworkValue) (r : RecipeValue) (leaves : List Signal) → laid kind (of_kind kind N) r leaves ≡ kinded kind (laid kind N r leaves)
+laid-kind kind N r leaves = ap (λ (l : Laid). record { network = l.network; signal = signal_at l.places r.root }) (steps-kind kind r.steps N (constant Bool.false ∷ leaves))
 
 plan-kind :
-    (kind : Kind) (form : GateValue → Normal) (N : NetworkValue) (op : Op) (operands : List Signal) (p : Plan) →
-    by_plan form (of_kind kind N) op operands p ≡ kinded kind (by_plan form N op operands p)
-plan-kind kind form N op operands Native = placed-kind kind form N (record { op = op; phase = Bool.false; fanins = operands })
-plan-kind kind form N op operands (Steps r) = laid-kind kind form N r operands
+    (kind : Kind) (N : NetworkValue) (op : Op) (operands : List Signal) (p : Plan) →
+    by_plan kind (of_kind kind N) op operands p ≡ kinded kind (by_plan kind N op operands p)
+plan-kind kind N op operands Native = placed-kind kind N (record { op = op; phase = Bool.false; fanins = operands })
+plan-kind kind N op operands (Steps r) = laid-kind kind N r operands
 
 pub made-kind :
-    (kind : Kind) (form : GateValue → Normal) (N : NetworkValue) (op : Op) (operands : List Signal) → made kind form (of_kind kind N) op operands ≡ kinded kind (made kind form N op operands)
+    (kind : Kind) (N : NetworkValue) (op : Op) (operands : List Signal) → made kind (of_kind kind N) op operands ≡ kinded kind (made kind N op operands)
 unfolding made
-made-kind kind form N op operands = plan-kind kind form N op operands (plan_of kind op (length operands))
+made-kind kind N op operands = plan-kind kind N op operands (plan_of kind op (length operands))
 
 pub live-kind : (kind : Kind) (N : NetworkValue) (ns : List ℕ) → AreLive (of_kind kind N) ns → AreLive N ns
 live-kind kind N ns live m i = subst IsSome (entry-kind kind N m) (live m i)
@@ -150,10 +150,10 @@ module _ {X : Type 0} {F : X → Type 0} {spec_of : DynBox X Global F → Option
 -- ---- after an operation
 
 pub strashed-after :
-    (kind : Kind) (form : GateValue → Normal) (laws : NormalLaws (IsNativeGate kind) form) (N M : NetworkValue) (op : Op) (operands : List Signal) → Takes op (length operands) → FitsWord op →
-    {E : Type 0} (r : Result Signal E) → IfOk r (λ s. made kind form N op operands ≡ record { network = M; signal = s }) → OnErr r (M ≡ N) → IsStrashed kind form N → IsStrashed kind form M
-strashed-after kind form laws N M op operands takes fits (Ok s) is same h = subst (λ (p : Placed). IsStrashed kind form p.network) is (strashed-made kind form laws N op operands takes fits h)
-strashed-after kind form laws N M op operands takes fits (Err e) is same h = subst (IsStrashed kind form) (sym same) h
+    (kind : Kind) (N M : NetworkValue) (op : Op) (operands : List Signal) → Takes op (length operands) → FitsWord op →
+    {E : Type 0} (r : Result Signal E) → IfOk r (λ s. made kind N op operands ≡ record { network = M; signal = s }) → OnErr r (M ≡ N) → IsStrashed kind N → IsStrashed kind M
+strashed-after kind N M op operands takes fits (Ok s) is same h = subst (λ (p : Placed). IsStrashed kind p.network) is (strashed-made kind N op operands takes fits h)
+strashed-after kind N M op operands takes fits (Err e) is same h = subst (IsStrashed kind) (sym same) h
 
 -- ---- after a sweep
 
@@ -164,8 +164,8 @@ swept-kind kind N M h = record {
   gone = h.gone;
 }
 
-pub swept-strashed : (kind : Kind) (form : GateValue → Normal) (N M : NetworkValue) → IsSwept N M → IsStrashed kind form N → IsStrashed kind form M
-swept-strashed kind form N M h = strashed-fewer kind form M N (λ n g e. sym (h.trimmed.left n (subst IsSome (sym e) refl)) ∙ e)
+pub swept-strashed : (kind : Kind) (N M : NetworkValue) → IsSwept N M → IsStrashed kind N → IsStrashed kind M
+swept-strashed kind N M h = strashed-fewer kind M N (λ n g e. sym (h.trimmed.left n (subst IsSome (sym e) refl)) ∙ e)
 
 -- ---- after an input
 
@@ -178,7 +178,7 @@ unfolding least_free
 free-kind kind N = refl
 
 pub strashed-entered :
-    (kind : Kind) (form : GateValue → Normal) (N M : NetworkValue) (S : Type 0) {E : Type 0} (r : Result Node E) → IfOk r (λ n. M ≡ with_input N n.0) → OnErr r ((M ≡ N) × S) →
-    IsStrashed kind form N → IsStrashed kind form M
-strashed-entered kind form N M S (Ok n) is same h = subst (IsStrashed kind form) (sym is) (strashed-with_input kind form N n.0 h)
-strashed-entered kind form N M S (Err e) is same h = subst (IsStrashed kind form) (sym same.0) h
+    (kind : Kind) (N M : NetworkValue) (S : Type 0) {E : Type 0} (r : Result Node E) → IfOk r (λ n. M ≡ with_input N n.0) → OnErr r ((M ≡ N) × S) →
+    IsStrashed kind N → IsStrashed kind M
+strashed-entered kind N M S (Ok n) is same h = subst (IsStrashed kind) (sym is) (strashed-with_input kind N n.0 h)
+strashed-entered kind N M S (Err e) is same h = subst (IsStrashed kind) (sym same.0) h

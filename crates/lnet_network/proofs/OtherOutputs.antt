@@ -2,8 +2,6 @@
 use Rattle.std.proofs.Common.{arith, ◌≡◌, ◌≤◌, ℕ, List, IsSome, Option, None, Some, IfSome, Result, Ok, Err, OnOk, OnErr, option_map, slice_index_or, refl, sym, ap, subst, ◌∙◌, Global}
 use Rattle.lnet_gates.specs.declared.gate.Kind.{Kind}
 use Rattle.lnet_gates.specs.declared.signal.Signal.{Signal}
-use Rattle.lnet_gates.specs.declared.normal.Normal.{Normal}
-use Rattle.lnet_gates.specs.Gates.{GateValue}
 use Rattle.lnet_model.specs.Networks.{NetworkValue, entry_at, gate_in, live_count}
 use Rattle.lnet_model.specs.Along.{over}
 use Rattle.lnet_model.specs.Fanouts.{fan}
@@ -86,8 +84,8 @@ either-outputs N M s S (Err e) is same = same.0 ∙ ap (λ (X : NetworkValue). w
 pub set-outputs : (N M : NetworkValue) (k : ℕ) (s : Signal) → M ≡ with_output N k s → IsOutputsOf N M
 set-outputs N M k s is = is ∙ output-is N k s ∙ ap (λ (X : NetworkValue). with_outputs N X.outputs) (sym is)
 
-pub strashed-outputs : (kind : Kind) (form : GateValue → Normal) (N M : NetworkValue) → IsOutputsOf N M → IsStrashed kind form N → IsStrashed kind form M
-strashed-outputs kind form N M is = strashed-same kind form M N (ap (λ (X : NetworkValue). X.nodes) is)
+pub strashed-outputs : (kind : Kind) (N M : NetworkValue) → IsOutputsOf N M → IsStrashed kind N → IsStrashed kind M
+strashed-outputs kind N M is = strashed-same kind M N (ap (λ (X : NetworkValue). X.nodes) is)
 
 count-outputs : (N : NetworkValue) (outputs : List Signal) → live_count (with_outputs N outputs) ≡ live_count N
 unfolding live_count

@@ -1,8 +1,6 @@
 -- What is read of a network seen as one of a kind is what is read of it.
 use Rattle.std.proofs.Common.{◌≡◌, ℕ, refl}
 use Rattle.lnet_gates.specs.declared.gate.Kind.{Kind}
-use Rattle.lnet_gates.specs.Gates.{GateValue}
-use Rattle.lnet_gates.specs.declared.normal.Normal.{Normal}
 use Rattle.lnet_model.specs.Networks.{NetworkValue, IsLive, entry_at, gate_at, live_count}
 use Rattle.lnet_model.specs.Changes.{IsGateAt}
 use Rattle.lnet_model.specs.Along.{Reaches, over}
@@ -50,9 +48,9 @@ stored-kind kind N h = record {
   few_outputs = h.few_outputs;
 }
 
-pub strashed-kind : (kind : Kind) (form : GateValue → Normal) (N : NetworkValue) → IsStrashed kind form N → IsStrashed kind form (of_kind kind N)
+pub strashed-kind : (kind : Kind) (N : NetworkValue) → IsStrashed kind N → IsStrashed kind (of_kind kind N)
 unfolding entry_at
-strashed-kind kind form N h = record { native = h.native; own_form = h.own_form; and_phase = h.and_phase; apart = h.apart }
+strashed-kind kind N h = record { native = h.native; own_form = h.own_form; and_phase = h.and_phase; apart = h.apart }
 
 pub kind-gate : (kind : Kind) (N : NetworkValue) (n : ℕ) → IsGateAt (of_kind kind N) n → IsGateAt N n
 unfolding entry_at

@@ -4,10 +4,7 @@ use Rattle.std.proofs.lemmas.List.{length-set}
 use Rattle.lnet_gates.specs.declared.gate.Kind.{Kind}
 use Rattle.lnet_gates.specs.declared.gate.Op.{Op}
 use Rattle.lnet_gates.specs.declared.signal.Signal.{Signal}
-use Rattle.lnet_gates.specs.declared.normal.Normal.{Normal}
-use Rattle.lnet_gates.specs.Gates.{GateValue}
-use Rattle.lnet_gates.specs.Natives.{IsNativeGate, FitsWord}
-use Rattle.lnet_gates.specs.NormalLaws.{NormalLaws}
+use Rattle.lnet_gates.specs.Natives.{FitsWord}
 use Rattle.lnet_gates.specs.Plans.{Takes}
 use Rattle.lnet_model.specs.Networks.{NetworkValue, Input, IsLive, entry_at, live_count}
 use Rattle.lnet_model.specs.Along.{nodes_read}
@@ -22,22 +19,22 @@ use Rattle.lnet_hashed.proofs.Extensions.{extends-live}
 use Rattle.lnet_hashed.proofs.LaidValues.{made-stands}
 use Rattle.lnet_network.specs.Uses.{IsMade, IsEntered, HasNewOutput, HasOutput}
 
-module _ (kind : Kind) (form : GateValue → Normal) (laws : NormalLaws (IsNativeGate kind) form) (N : NetworkValue) (f : Op) (operands : List Signal) (takes : Takes f (length operands))
+module _ (kind : Kind) (N : NetworkValue) (f : Op) (operands : List Signal) (takes : Takes f (length operands))
     (fits : FitsWord f) (stored : IsStored N) (live : AreLive N (nodes_read operands)) where
-  is-made : (M : NetworkValue) (s : Signal) → live_count M ≤ NUMBERS → made kind form N f operands ≡ record { network = M; signal = s } → IsMade kind form N f operands M s
+  is-made : (M : NetworkValue) (s : Signal) → live_count M ≤ NUMBERS → made kind N f operands ≡ record { network = M; signal = s } → IsMade kind N f operands M s
   is-made M s few is =
-      let stands = made-stands kind form laws N f operands takes fits stored live (subst (λ (p : Placed). live_count p.network ≤ NUMBERS) (sym is) few) in
+      let stands = made-stands kind N f operands takes fits stored live (subst (λ (p : Placed). live_count p.network ≤ NUMBERS) (sym is) few) in
       record {
         is = is;
         live = subst (λ (p : Placed). IsLive p.network p.signal.node.0) is stands.live;
-        stays = λ n here. subst (λ (p : Placed). IsLive p.network n) is (extends-live N (made kind form N f operands).network stands.extends n here);
+        stays = λ n here. subst (λ (p : Placed). IsLive p.network n) is (extends-live N (made kind N f operands).network stands.extends n here);
         inputs = subst (λ (p : Placed). p.network.inputs ≡ N.inputs) is stands.extends.inputs;
         outputs = subst (λ (p : Placed). p.network.outputs ≡ N.outputs) is stands.extends.outputs;
       }
 
   pub answer-made :
-      {E : Type 0} (M : NetworkValue) (r : Result Signal E) → live_count M ≤ NUMBERS → IfOk r (λ s. made kind form N f operands ≡ record { network = M; signal = s }) →
-      IfOk r (λ s. IsMade kind form N f operands M s)
+      {E : Type 0} (M : NetworkValue) (r : Result Signal E) → live_count M ≤ NUMBERS → IfOk r (λ s. made kind N f operands ≡ record { network = M; signal = s }) →
+      IfOk r (λ s. IsMade kind N f operands M s)
   answer-made M (Ok s) few is = is-made M s few is
   answer-made M (Err e) few is = tt
 

@@ -3,16 +3,14 @@ use Rattle.std.specs.Prelude.{◌≡◌, ℕ, false, List, [], ◌∷◌, ◌++�
 use Rattle.lnet_gates.specs.declared.gate.Kind.{Kind}
 use Rattle.lnet_gates.specs.declared.gate.Op.{Op}
 use Rattle.lnet_gates.specs.declared.signal.Signal.{Signal}
-use Rattle.lnet_gates.specs.declared.normal.Normal.{Normal}
-use Rattle.lnet_gates.specs.Gates.{GateValue}
 use Rattle.lnet_model.specs.Networks.{NetworkValue, IsLive}
 use Rattle.lnet_store.specs.StoreValues.{with_input, with_new_output, with_output}
 use Rattle.lnet_hashed.specs.Strashed.{least_free}
 use Rattle.lnet_hashed.specs.Laid.{made}
 
 -- the network and the signal of an operation; what was live stays so, and the inputs and outputs are as they were
-pub record IsMade (kind : Kind) (form : GateValue → Normal) (N : NetworkValue) (op : Op) (operands : List Signal) (M : NetworkValue) (s : Signal) : Type 0 where
-  pub is : made kind form N op operands ≡ record { network = M; signal = s }
+pub record IsMade (kind : Kind) (N : NetworkValue) (op : Op) (operands : List Signal) (M : NetworkValue) (s : Signal) : Type 0 where
+  pub is : made kind N op operands ≡ record { network = M; signal = s }
   pub live : IsLive M s.node.0
   pub stays : (n : ℕ) → IsLive N n → IsLive M n
   pub inputs : M.inputs ≡ N.inputs

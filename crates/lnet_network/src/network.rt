@@ -16,12 +16,9 @@ ghost use Rattle.lnet_network.specs.Uses.{IsEntered, IsMade};
 
 use lnet_gates::{Gates, Node, Op, Signal};
 use lnet_hashed::{Hashed, Watch, add_input, make, reserve, sweep};
-use lnet_store::{AddError, View};
+use lnet_store::{AddError, NUMBER_LIMIT, View};
 use std::alloc::{AllocError, Global};
 use std::marker::{Model, PhantomData};
-
-/// How many numbers a network can have.
-const LIMIT: u32 = 1048576;
 
 /// A hashed store whose gates are of one kind and in normal form, no two with one key.
 #[derive(Drop)]
@@ -41,7 +38,7 @@ impl<G: Gates> Model for Core<G> {
 
     ghost view = { λ c. record { network = of_kind G.KIND c.hashed.store.network; room = c.hashed.room } };
 
-    ghost invariant = { λ c. IsStrashed G.KIND G.form c.hashed.store.network × HasRoom c.hashed };
+    ghost invariant = { λ c. IsStrashed G.KIND c.hashed.store.network × HasRoom c.hashed };
 }
 
 impl<G: Gates> Core<G> {
@@ -116,7 +113,7 @@ impl<G: Gates> Network<G> {
         ensures in_step { AreToldBy ⟦<dyn View as View>⟧ self.new.core.network self.new.core.room self.old.watch self.new.watch }
     {
         let live = self.core.hashed.store.live_count();
-        let wanted = live + numbers.min(LIMIT - live);
+        let wanted = live + numbers.min(NUMBER_LIMIT - live);
         if wanted <= self.core.hashed.room {
             return Ok(());
         }
@@ -130,11 +127,11 @@ impl<G: Gates> Network<G> {
         requires arity { Takes op (length operands.now) }
         requires live { AreLive self.old.core.network (nodes_read operands.now) }
         requires in_step { AreFitBy ⟦<dyn View as View>⟧ self.old.core.network self.old.core.room self.old.watch }
-        ensures made { IfOk result (λ s. IsMade G.KIND G.form self.old.core.network op operands.now self.new.core.network s) }
+        ensures made { IfOk result (λ s. IsMade G.KIND self.old.core.network op operands.now self.new.core.network s) }
         ensures refused { OnErr result (self.new.core.network ≡ self.old.core.network) }
         ensures grows { self.old.core.room ≤ self.new.core.room }
-        ensures full { result ≡ Err AddError.Full → NUMBERS < live_count (made G.KIND G.form self.old.core.network op operands.now).network }
-        ensures memory { result ≡ Err AddError.NoMemory → self.old.core.room < min NUMBERS (live_count (made G.KIND G.form self.old.core.network op operands.now).network) }
+        ensures full { result ≡ Err AddError.Full → NUMBERS < live_count (made G.KIND self.old.core.network op operands.now).network }
+        ensures memory { result ≡ Err AddError.NoMemory → self.old.core.room < min NUMBERS (live_count (made G.KIND self.old.core.network op operands.now).network) }
         ensures in_step { AreToldBy ⟦<dyn View as View>⟧ self.new.core.network self.new.core.room self.old.watch self.new.watch }
     {
         word_fits(&op);
@@ -149,11 +146,11 @@ impl<G: Gates> Network<G> {
         requires arity { Takes op (length operands.now) }
         requires live { AreLive self.old.core.network (nodes_read operands.now) }
         requires in_step { AreFitBy ⟦<dyn View as View>⟧ self.old.core.network self.old.core.room self.old.watch }
-        ensures made { IfOk result (λ s. made G.KIND G.form self.old.core.network op operands.now ≡ record { network = self.new.core.network; signal = s }) }
+        ensures made { IfOk result (λ s. made G.KIND self.old.core.network op operands.now ≡ record { network = self.new.core.network; signal = s }) }
         ensures refused { OnErr result (self.new.core.network ≡ self.old.core.network) }
         ensures grows { self.old.core.room ≤ self.new.core.room }
-        ensures full { result ≡ Err AddError.Full → NUMBERS < live_count (made G.KIND G.form self.old.core.network op operands.now).network }
-        ensures memory { result ≡ Err AddError.NoMemory → self.old.core.room < min NUMBERS (live_count (made G.KIND G.form self.old.core.network op operands.now).network) }
+        ensures full { result ≡ Err AddError.Full → NUMBERS < live_count (made G.KIND self.old.core.network op operands.now).network }
+        ensures memory { result ≡ Err AddError.NoMemory → self.old.core.room < min NUMBERS (live_count (made G.KIND self.old.core.network op operands.now).network) }
         ensures in_step { AreToldBy ⟦<dyn View as View>⟧ self.new.core.network self.new.core.room self.old.watch self.new.watch }
     {
         word_fits(&op);

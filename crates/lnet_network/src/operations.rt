@@ -20,11 +20,11 @@ impl<G: Gates> Network<G> {
         requires live_a { IsLive self.old.core.network a.node.0 }
         requires live_b { IsLive self.old.core.network b.node.0 }
         requires in_step { AreFitBy ⟦<dyn View as View>⟧ self.old.core.network self.old.core.room self.old.watch }
-        ensures made { IfOk result (λ x. IsMade G.KIND G.form self.old.core.network And (a ∷ b ∷ []) self.new.core.network x) }
+        ensures made { IfOk result (λ x. IsMade G.KIND self.old.core.network And (a ∷ b ∷ []) self.new.core.network x) }
         ensures refused { OnErr result (self.new.core.network ≡ self.old.core.network) }
         ensures grows { self.old.core.room ≤ self.new.core.room }
-        ensures full { result ≡ Err AddError.Full → NUMBERS < live_count (made G.KIND G.form self.old.core.network And (a ∷ b ∷ [])).network }
-        ensures memory { result ≡ Err AddError.NoMemory → self.old.core.room < min NUMBERS (live_count (made G.KIND G.form self.old.core.network And (a ∷ b ∷ [])).network) }
+        ensures full { result ≡ Err AddError.Full → NUMBERS < live_count (made G.KIND self.old.core.network And (a ∷ b ∷ [])).network }
+        ensures memory { result ≡ Err AddError.NoMemory → self.old.core.room < min NUMBERS (live_count (made G.KIND self.old.core.network And (a ∷ b ∷ [])).network) }
         ensures in_step { AreToldBy ⟦<dyn View as View>⟧ self.new.core.network self.new.core.room self.old.watch self.new.watch }
     {
         self.gate(Op::And, &[a, b])
@@ -35,11 +35,11 @@ impl<G: Gates> Network<G> {
         requires live_a { IsLive self.old.core.network a.node.0 }
         requires live_b { IsLive self.old.core.network b.node.0 }
         requires in_step { AreFitBy ⟦<dyn View as View>⟧ self.old.core.network self.old.core.room self.old.watch }
-        ensures made { IfOk result (λ x. IsMade G.KIND G.form self.old.core.network Xor (a ∷ b ∷ []) self.new.core.network x) }
+        ensures made { IfOk result (λ x. IsMade G.KIND self.old.core.network Xor (a ∷ b ∷ []) self.new.core.network x) }
         ensures refused { OnErr result (self.new.core.network ≡ self.old.core.network) }
         ensures grows { self.old.core.room ≤ self.new.core.room }
-        ensures full { result ≡ Err AddError.Full → NUMBERS < live_count (made G.KIND G.form self.old.core.network Xor (a ∷ b ∷ [])).network }
-        ensures memory { result ≡ Err AddError.NoMemory → self.old.core.room < min NUMBERS (live_count (made G.KIND G.form self.old.core.network Xor (a ∷ b ∷ [])).network) }
+        ensures full { result ≡ Err AddError.Full → NUMBERS < live_count (made G.KIND self.old.core.network Xor (a ∷ b ∷ [])).network }
+        ensures memory { result ≡ Err AddError.NoMemory → self.old.core.room < min NUMBERS (live_count (made G.KIND self.old.core.network Xor (a ∷ b ∷ [])).network) }
         ensures in_step { AreToldBy ⟦<dyn View as View>⟧ self.new.core.network self.new.core.room self.old.watch self.new.watch }
     {
         self.gate(Op::Xor, &[a, b])
@@ -51,11 +51,11 @@ impl<G: Gates> Network<G> {
         requires live_b { IsLive self.old.core.network b.node.0 }
         requires live_c { IsLive self.old.core.network c.node.0 }
         requires in_step { AreFitBy ⟦<dyn View as View>⟧ self.old.core.network self.old.core.room self.old.watch }
-        ensures made { IfOk result (λ x. IsMade G.KIND G.form self.old.core.network Maj (a ∷ b ∷ c ∷ []) self.new.core.network x) }
+        ensures made { IfOk result (λ x. IsMade G.KIND self.old.core.network Maj (a ∷ b ∷ c ∷ []) self.new.core.network x) }
         ensures refused { OnErr result (self.new.core.network ≡ self.old.core.network) }
         ensures grows { self.old.core.room ≤ self.new.core.room }
-        ensures full { result ≡ Err AddError.Full → NUMBERS < live_count (made G.KIND G.form self.old.core.network Maj (a ∷ b ∷ c ∷ [])).network }
-        ensures memory { result ≡ Err AddError.NoMemory → self.old.core.room < min NUMBERS (live_count (made G.KIND G.form self.old.core.network Maj (a ∷ b ∷ c ∷ [])).network) }
+        ensures full { result ≡ Err AddError.Full → NUMBERS < live_count (made G.KIND self.old.core.network Maj (a ∷ b ∷ c ∷ [])).network }
+        ensures memory { result ≡ Err AddError.NoMemory → self.old.core.room < min NUMBERS (live_count (made G.KIND self.old.core.network Maj (a ∷ b ∷ c ∷ [])).network) }
         ensures in_step { AreToldBy ⟦<dyn View as View>⟧ self.new.core.network self.new.core.room self.old.watch self.new.watch }
     {
         self.gate(Op::Maj, &[a, b, c])
@@ -67,11 +67,11 @@ impl<G: Gates> Network<G> {
         requires arity { length operands.now ≤ 6 }
         requires live { AreLive self.old.core.network (nodes_read operands.now) }
         requires in_step { AreFitBy ⟦<dyn View as View>⟧ self.old.core.network self.old.core.room self.old.watch }
-        ensures made { IfOk result (λ x. IsMade G.KIND G.form self.old.core.network (Lut table) operands.now self.new.core.network x) }
+        ensures made { IfOk result (λ x. IsMade G.KIND self.old.core.network (Lut table) operands.now self.new.core.network x) }
         ensures refused { OnErr result (self.new.core.network ≡ self.old.core.network) }
         ensures grows { self.old.core.room ≤ self.new.core.room }
-        ensures full { result ≡ Err AddError.Full → NUMBERS < live_count (made G.KIND G.form self.old.core.network (Lut table) operands.now).network }
-        ensures memory { result ≡ Err AddError.NoMemory → self.old.core.room < min NUMBERS (live_count (made G.KIND G.form self.old.core.network (Lut table) operands.now).network) }
+        ensures full { result ≡ Err AddError.Full → NUMBERS < live_count (made G.KIND self.old.core.network (Lut table) operands.now).network }
+        ensures memory { result ≡ Err AddError.NoMemory → self.old.core.room < min NUMBERS (live_count (made G.KIND self.old.core.network (Lut table) operands.now).network) }
         ensures in_step { AreToldBy ⟦<dyn View as View>⟧ self.new.core.network self.new.core.room self.old.watch self.new.watch }
     {
         self.gate(Op::Lut(table), operands)

@@ -21,7 +21,7 @@ impl<G: Gates> Network<G> {
         // What the type keeps: no cycle, live fanins and outputs, and as many fanins as each operation takes.
         ensures stored { IsStored self.now.core.network }
         // Each gate is one of the kind and in normal form, and no two have one key.
-        ensures strashed { IsStrashed G.KIND G.form self.now.core.network }
+        ensures strashed { IsStrashed G.KIND self.now.core.network }
     {
         self.core.hashed.store.live_count()
     }

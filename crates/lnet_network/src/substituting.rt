@@ -24,7 +24,7 @@ impl<G: Gates> Network<G> {
         requires live { IsLive self.old.core.network signal.node.0 }
         requires free { Depends self.old.core.network signal gate.0 → ⊥ }
         requires in_step { AreFitBy ⟦<dyn View as View>⟧ self.old.core.network self.old.core.room self.old.watch }
-        ensures substitutes { Substitutes G.KIND G.form self.old.core.network gate.0 signal self.new.core.network }
+        ensures substitutes { Substitutes G.KIND self.old.core.network gate.0 signal self.new.core.network }
         ensures room { self.new.core.room ≡ self.old.core.room }
         ensures in_step { AreToldBy ⟦<dyn View as View>⟧ self.new.core.network self.new.core.room self.old.watch self.new.watch }
     {

@@ -5,7 +5,7 @@ use Rattle.std.proofs.Common.{Some, take}
 use Rattle.std.proofs.Math.Seq.{take-length}
 use Rattle.std.proofs.lemmas.Option.{get_or_from_slice_get}
 use mathlib.Core.Bool.{◌&&◌}
-use Rattle.std.proofs.lemmas.Bool.{cases_lt, le-leb, lt-leb, leb-true, and_parts, false≢true}
+use Rattle.std.proofs.lemmas.Bool.{cases_lt, le-leb, leb-true, and_parts, false≢true}
 use Rattle.std.proofs.lemmas.List.{get_or_append_left, get_or_push, length_push, get_or_past, take_more, length-map, length-take-le, map-append}
 use Rattle.std.proofs.lemmas.List.FromFn.{get_or-map-range_with_len}
 use Rattle.lnet_tables.specs.Bits.{is_set, bit_xor2}
@@ -32,15 +32,9 @@ pub kept_lit : (t : Transform) (l : Lit) → is_leaf (place l) ≡ false → rew
 unfolding rewired_lit
 kept_lit t l e = rw e refl
 
-pub not_leaf_low : (p : ℕ) → p < 1 → is_leaf p ≡ false
-not_leaf_low p lt = rw (lt-leb 1 p lt) refl
-
 and_false : (x : Bool) → (x && false) ≡ false
 and_false true = refl
 and_false false = refl
-
-pub not_leaf_high : (p : ℕ) → 4 < p → is_leaf p ≡ false
-not_leaf_high p lt = rw (lt-leb p 4 lt) (and_false (leb 1 p))
 
 pub record LeafOr (p : ℕ) : Type 0 where
   pub low : 1 ≤ p

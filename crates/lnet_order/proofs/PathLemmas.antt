@@ -1,11 +1,7 @@
 -- What is left of the search as it goes a step further.
-use Rattle.std.proofs.Common.{◌≡◌, ℕ, zero, suc, ◌+◌, ◌<◌, ◌==◌, ◌||◌, Bool, true, false, List, [], ◌∷◌, ◌++◌, length, drop, get_or, slice_get, Option, Some, None, refl, sym, ap, ◌∙◌, inl, inr, arith}
+use Rattle.std.proofs.Common.{◌≡◌, ℕ, zero, suc, ◌+◌, ◌<◌, Bool, true, false, List, [], ◌∷◌, ◌++◌, length, drop, get_or, slice_get, Option, Some, None, refl, sym, ap, ◌∙◌, arith}
 use Rattle.std.specs.Prelude.{if◌then◌else◌}
-use Rattle.std.proofs.Math.Seq.{drop-cons, get_or-set_same, get_or-set_other}
-use Rattle.std.proofs.Math.ListN.{set, length-set}
-use Rattle.std.specs.List.{list_any}
-use Rattle.std.proofs.lemmas.Bool.Decides.{eqb_tells}
-use Rattle.std.proofs.lemmas.List.Folds.{list_any-append}
+use Rattle.std.proofs.Math.Seq.{drop-cons}
 use Rattle.std.proofs.lemmas.Option.{slice_get_within, get_or_from_slice_get}
 use Rattle.lnet_edge.specs.Circuits.{EquationValue}
 use Rattle.lnet_edge.specs.Searches.{operands_at}
@@ -108,28 +104,6 @@ advances-end es places places' path f none is =
     record { same = sym (before ∙ ap (λ ps. finished es ps path) close); fewer = omega arith }
 
 -- ---- marks and frames
-
-pub marked-push : (marks : List Bool) (places places' : List ℕ) (count k : ℕ) → k < count → IsMarked marks places count → places' ≡ places ++ k ∷ [] → IsMarked (set marks k true) places' count
-marked-push marks places places' count k low m is = record {
-  sized = length-set marks k true ∙ m.sized;
-  marked = λ j. elim (eqb_tells j k) as (λ _. get_or (set marks k true) j false ≡ is_among j places') [
-    | inl p ↦
-        let size = m.sized in
-        ap (λ i. get_or (set marks k true) i false) p.1 ∙ get_or-set_same marks k true false (omega arith)
-        ∙ sym (ap (is_among j) is ∙ list_any-append (λ i. j == i) places (k ∷ []) ∙ ap (λ b. list_any (λ i. j == i) places || (b || false)) p.0 ∙ or_true (list_any (λ i. j == i) places))
-    | inr p ↦
-        get_or-set_other marks k j true false p.1 ∙ m.marked j
-        ∙ sym (ap (is_among j) is ∙ list_any-append (λ i. j == i) places (k ∷ []) ∙ ap (λ b. list_any (λ i. j == i) places || (b || false)) p.0 ∙ or_false (list_any (λ i. j == i) places))
-  ];
-}
-  where
-    or_true : (b : Bool) → (b || (true || false)) ≡ true
-    or_true true = refl
-    or_true false = refl
-
-    or_false : (b : Bool) → (b || (false || false)) ≡ b
-    or_false true = refl
-    or_false false = refl
 
 pub within-push : (count : ℕ) (fs : List Frame) (f : Frame) → AreWithin count fs → f.place < count → AreWithin count (fs ++ f ∷ [])
 within-push count [] f h low = (low, tt)

@@ -1,10 +1,9 @@
--- The lines of outputs, and the digits of a table, one after the other.
+-- The lines of outputs, one after the other.
 use Rattle.std.proofs.Common.{◌≡◌, ℕ, zero, suc, ◌+◌, ◌-◌, ◌<◌, ◌≤◌, ◌/◌, ◌%◌, ◌^◌, false, List, [], ◌∷◌, ◌++◌, length, drop, slice_get, Some, sym, ap, ◌∙◌, arith, append_assoc}
-use Rattle.std.specs.Fmt.{digits}
 use Rattle.std.proofs.Math.Seq.{drop-nil}
 use Rattle.std.proofs.lemmas.List.{append-nil}
 use Rattle.lnet_gates.specs.declared.signal.Signal.{Signal}
-use Rattle.lnet_print.specs.Printed.{output_line, output_lines, hex_digits}
+use Rattle.lnet_print.specs.Printed.{output_line, output_lines}
 
 -- the lines of the outputs from place k on
 abbrev pub lines_after : ℕ → List Signal → List ℕ
@@ -22,18 +21,6 @@ drop-past (r ∷ rs) (suc k) e = drop-past rs k (omega arith)
 
 pub lines-one : (ss : List Signal) (k : ℕ) (s : Signal) → slice_get ss k ≡ Some s → lines_after k ss ≡ output_line k s ++ lines_after (k + 1) ss
 lines-one ss k s e = let next : suc k ≡ k + 1 = omega arith in ap (output_lines k) (drop-at ss k s e) ∙ ap (λ j. output_line k s ++ lines_after j ss) next
-
-pub lines-past : (ss : List Signal) (k : ℕ) → length ss ≤ k → lines_after k ss ≡ []
-lines-past ss k le = ap (output_lines k) (drop-past ss k le)
-
-pub digits-one : (width done table : ℕ) → done < width → hex_digits (width - done) table ≡ digits 16 false ((table / 16 ^ (width - 1 - done)) % 16) ++ hex_digits (width - (done + 1)) table
-digits-one width done table lt =
-    let more : width - done ≡ suc (width - (done + 1)) = omega arith in
-    let same : width - 1 - done ≡ width - (done + 1) = omega arith in
-    ap (λ k. hex_digits k table) more ∙ ap (λ j. digits 16 false ((table / 16 ^ j) % 16) ++ hex_digits (width - (done + 1)) table) (sym same)
-
-pub digits-end : (width done table : ℕ) → width ≤ done → hex_digits (width - done) table ≡ []
-digits-end width done table le = let e : width - done ≡ 0 = omega arith in ap (λ k. hex_digits k table) e
 
 -- a text and what comes after it, a piece further
 pub onward : (before after piece rest now total : List ℕ) → after ≡ before ++ piece → now ≡ piece ++ rest → before ++ now ≡ total → after ++ rest ≡ total

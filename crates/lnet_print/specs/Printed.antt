@@ -1,8 +1,9 @@
 -- The text of a network: a line for each live node, ascending, and then one for each output.
-use Rattle.std.specs.Prelude.{Option, None, Some, ℕ, zero, suc, ◌/◌, ◌%◌, ◌^◌, Bool, true, false, List, [], ◌∷◌, ◌++◌, length, nat_lt, codes, if◌then◌else◌}
+use Rattle.std.specs.Prelude.{Option, None, Some, ℕ, suc, Bool, true, false, List, [], ◌∷◌, ◌++◌, length, codes}
 use Rattle.std.specs.List.{flat_map}
 use Rattle.std.specs.FinMap.{entries}
-use Rattle.std.specs.Fmt.{decimal, digits}
+use Rattle.std.specs.Fmt.{decimal}
+use Rattle.lnet_tables.specs.Digits.{digit_count, hex_digits}
 use Rattle.lnet_gates.specs.declared.signal.Signal.{Signal}
 use Rattle.lnet_gates.specs.declared.gate.Op.{Op}
 use Rattle.lnet_gates.specs.declared.gate.Op.TheVariants.{And, Xor, Maj, Lut}
@@ -22,21 +23,12 @@ signal_text s = mark s.complement ++ decimal s.node.0
 abbrev pub operands_text : List Signal → List ℕ
 operands_text ss = flat_map (λ s. 32 ∷ signal_text s) ss
 
--- so many of a table's least hexadecimal digits, the most significant first, in lower case
-abbrev pub hex_digits : ℕ → ℕ → List ℕ
-hex_digits zero t = []
-hex_digits (suc k) t = digits 16 false ((t / 16 ^ k) % 16) ++ hex_digits k t
-
--- how many hexadecimal digits a table of so many variables has: a digit is four rows, and there is one at least
-abbrev pub table_width : ℕ → ℕ
-table_width vars = if nat_lt vars 2 then 1 else 2 ^ vars / 4
-
 -- an operation's word; after that of a look-up table its table
 abbrev pub op_text : Op → ℕ → List ℕ
 op_text And arity = codes "and"
 op_text Xor arity = codes "xor"
 op_text Maj arity = codes "maj"
-op_text (Lut table) arity = codes "lut " ++ hex_digits (table_width arity) table
+op_text (Lut table) arity = codes "lut " ++ hex_digits (digit_count arity) table
 
 -- a gate, with `!` before its operation where its phase is 1, and its fanins in their stored order
 abbrev pub gate_text : GateValue → List ℕ

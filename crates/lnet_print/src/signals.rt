@@ -1,11 +1,11 @@
 //! Signals and gates as text.
 
-ghost use Rattle.std.specs.Prelude.{◌≡◌, ◌<◌, ◌≤◌, ◌++◌, ◌/◌, ◌%◌, ◌^◌, false, length, OnOk, string_bytes};
-ghost use Rattle.std.specs.Fmt.{digits};
+ghost use Rattle.std.specs.Prelude.{◌≡◌, ◌≤◌, ◌++◌, OnOk, string_bytes};
 ghost use Rattle.lnet_gates.specs.declared.gate.Op.TheVariants.{Lut};
-ghost use Rattle.lnet_print.specs.Printed.{mark, signal_text, operands_text, hex_digits, table_width, op_text, gate_text};
+ghost use Rattle.lnet_print.specs.Printed.{mark, signal_text, operands_text, op_text, gate_text};
 
 use lnet_gates::{Gate, Op, Signal};
+use lnet_tables::put_digits;
 use std::alloc::AllocError;
 
 /// `!` where the flag is set.
@@ -38,41 +38,6 @@ fn put_operands(out: &mut String, signals: &[Signal]) -> Result<(), AllocError>
     Ok(())
 }
 
-/// One hexadecimal digit of a table: that of the rows from `4 * place` on.
-fn put_digit(out: &mut String, table: u64, place: u32) -> Result<(), AllocError>
-    requires { place < 16 }
-    ensures { OnOk result (string_bytes out.new ≡ string_bytes out.old ++ digits 16 false ((table / 16 ^ place) % 16)) }
-{
-    let digit = table / 16u64.pow(place) % 16;
-    write!(out, "{digit:x}")
-}
-
-/// The table's least `width` hexadecimal digits, the most significant first.
-fn put_table(out: &mut String, table: u64, width: u32) -> Result<(), AllocError>
-    requires { width ≤ 16 }
-    ensures { OnOk result (string_bytes out.new ≡ string_bytes out.old ++ hex_digits width table) }
-{
-    for done in 0..width {
-        put_digit(out, table, width - 1 - done)?;
-    }
-    Ok(())
-}
-
-/// How many hexadecimal digits a table of so many variables has.
-fn width_of(vars: usize) -> u32
-    requires { vars ≤ 6 }
-    ensures value { result ≡ table_width vars }
-    ensures few { result ≤ 16 }
-{
-    match vars {
-        0 | 1 | 2 => 1,
-        3 => 2,
-        4 => 4,
-        5 => 8,
-        _ => 16,
-    }
-}
-
 /// The word of an operation on so many fanins; after that of a look-up table its table.
 fn put_op(out: &mut String, op: Op, arity: usize) -> Result<(), AllocError>
     requires { arity ≤ 6 }
@@ -84,7 +49,7 @@ fn put_op(out: &mut String, op: Op, arity: usize) -> Result<(), AllocError>
         Op::Maj => out.push_str("maj"),
         Op::Lut(table) => {
             out.push_str("lut ")?;
-            put_table(out, table, width_of(arity))
+            put_digits(out, table, arity)
         }
     }
 }

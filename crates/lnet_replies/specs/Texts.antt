@@ -5,11 +5,12 @@ use Rattle.std.specs.Fmt.{decimal}
 use Rattle.lnet_edge.specs.declared.fault.Fault.{Fault}
 use Rattle.lnet_edge.specs.declared.fault.Fault.TheVariants as faults
 use Rattle.lnet_gates.specs.declared.gate.Kind.{Kind}
-use Rattle.lnet_gates.specs.declared.gate.Kind.TheVariants.{Aig, Xag, Mig, Klut}
+use Rattle.lnet_gates.specs.KindWords.{kind_word}
 use Rattle.lnet_model.specs.declared.view_spec.ViewSpec.{ViewSpec}
 use Rattle.lnet_model.specs.declared.view_spec.ViewSpec.TheVariants as views
 use Rattle.lnet_replies.specs.declared.reply.Unmet.{Unmet}
 use Rattle.lnet_replies.specs.declared.reply.Unmet.TheVariants as unmet
+use Rattle.lnet_replies.specs.declared.reply.Counts.{Counts}
 use Rattle.lnet_replies.specs.declared.reply.Reply.{Reply}
 use Rattle.lnet_replies.specs.declared.reply.Reply.TheVariants as reply
 
@@ -33,13 +34,6 @@ fault_name faults.Unsupported = codes "Unsupported"
 fault_name faults.Undriven = codes "Undriven"
 fault_name faults.Twice = codes "Twice"
 fault_name faults.Cycle = codes "Cycle"
-
--- the word of a kind of networks
-abbrev pub kind_word : Kind → List ℕ
-kind_word Aig = codes "aig"
-kind_word Xag = codes "xag"
-kind_word Mig = codes "mig"
-kind_word Klut = codes "klut"
 
 -- the words of a view's spec
 abbrev pub view_word : ViewSpec → List ℕ
@@ -81,12 +75,12 @@ abbrev pub unmet_text : ℕ → Unmet → List ℕ
 unmet_text index cause = codes "unmet " ++ (decimal index ++ (32 ∷ (cause_text cause ++ 10 ∷ [])))
 
 -- the kind and the counts of a network
-abbrev pub counts_text : Kind → ℕ → ℕ → ℕ → List ℕ
-counts_text kind inputs outputs gates = kind_word kind ++ (codes " inputs " ++ (decimal inputs ++ (codes " outputs " ++ (decimal outputs ++ (codes " gates " ++ decimal gates)))))
+abbrev pub counts_text : Counts → List ℕ
+counts_text c = kind_word c.kind ++ (codes " inputs " ++ (decimal c.inputs ++ (codes " outputs " ++ (decimal c.outputs ++ (codes " gates " ++ decimal c.gates)))))
 
 -- the text of a command that was met or not, the index counting commands from 1
 abbrev pub reply_text : ℕ → Reply → List ℕ
-reply_text index (reply.Network kind inputs outputs gates) = codes "network " ++ (counts_text kind inputs outputs gates ++ 10 ∷ [])
+reply_text index (reply.Network counts) = codes "network " ++ (counts_text counts ++ 10 ∷ [])
 reply_text index (reply.Wrote bytes) = codes "wrote " ++ (decimal bytes ++ 10 ∷ [])
 reply_text index (reply.Viewed number spec) = codes "view " ++ (decimal number ++ (32 ∷ (view_word spec ++ 10 ∷ [])))
 reply_text index (reply.Dropped number) = codes "dropped " ++ (decimal number ++ 10 ∷ [])
@@ -94,5 +88,5 @@ reply_text index (reply.Level node level) = codes "level " ++ (decimal node ++ (
 reply_text index (reply.Printed text) = string_bytes text
 reply_text index (reply.Simulated bits) = codes "outputs " ++ (bits_word bits.items ++ 10 ∷ [])
 reply_text index (reply.Merged node gates) = codes "merged " ++ (decimal node ++ (codes " gates " ++ (decimal gates ++ 10 ∷ [])))
-reply_text index (reply.Stats kind inputs outputs gates depth) = codes "stats " ++ (counts_text kind inputs outputs gates ++ (codes " depth " ++ (decimal depth ++ 10 ∷ [])))
+reply_text index (reply.Stats counts depth) = codes "stats " ++ (counts_text counts ++ (codes " depth " ++ (decimal depth ++ 10 ∷ [])))
 reply_text index (reply.Unmet cause) = unmet_text index cause

@@ -3,4 +3,4 @@
 
 mod reply;
 
-pub use reply::{Reply, Unmet, is_met, text_of_reply};
+pub use reply::{Counts, Reply, Unmet, is_met, text_of_reply};

@@ -2,7 +2,8 @@
 
 ghost use Rattle.std.specs.Prelude.{◌≡◌, ◌++◌, ◌∷◌, [], codes, not, IfOk, string_bytes};
 ghost use Rattle.std.specs.Fmt.{decimal};
-ghost use Rattle.lnet_replies.specs.Texts.{bit_text, bits_of, bits_word, cause_text, counts_text, fault_name, is_unmet, kind_word, reply_text, view_word};
+ghost use Rattle.lnet_gates.specs.KindWords.{kind_word};
+ghost use Rattle.lnet_replies.specs.Texts.{bit_text, bits_of, bits_word, cause_text, counts_text, fault_name, is_unmet, reply_text, view_word};
 
 use lnet_edge::Fault;
 use lnet_gates::Kind;
@@ -39,47 +40,40 @@ pub enum Unmet {
     BadBits,
 }
 
+/// A network's kind, and how many inputs, outputs and gates it has.
+#[derive(Clone, Copy, Debug, PartialEq, Eq)]
+pub struct Counts {
+    /// Its kind.
+    pub kind: Kind,
+    /// How many inputs it has.
+    pub inputs: u32,
+    /// How many outputs it has.
+    pub outputs: u32,
+    /// How many gates it has.
+    pub gates: u32,
+}
+
 /// What a command answers. It determines the text in the transcript and whether the command was met.
 #[derive(Debug, Drop)]
 pub enum Reply {
-    /// A network of this kind was put in place, with so many inputs, outputs and gates.
-    Network {
-        kind: Kind,
-        inputs: u32,
-        outputs: u32,
-        gates: u32,
-    },
+    /// A network with these counts was put in place.
+    Network(Counts),
     /// The network was written, in so many bytes.
     Wrote(usize),
     /// A view was attached under this number, for this spec.
-    Viewed {
-        number: u32,
-        spec: ViewSpec,
-    },
+    Viewed { number: u32, spec: ViewSpec },
     /// The view with this number was put back.
     Dropped(u32),
     /// The node has this level.
-    Level {
-        node: u32,
-        level: u32,
-    },
+    Level { node: u32, level: u32 },
     /// The lines of the network.
     Printed(String),
     /// The outputs have these values.
     Simulated(Vec<bool>),
     /// The gate gave way, and so many gates are left.
-    Merged {
-        node: u32,
-        gates: u32,
-    },
+    Merged { node: u32, gates: u32 },
     /// The network's kind, counts and depth.
-    Stats {
-        kind: Kind,
-        inputs: u32,
-        outputs: u32,
-        gates: u32,
-        depth: u32,
-    },
+    Stats { counts: Counts, depth: u32 },
     /// The command was not met.
     Unmet(Unmet),
 }
@@ -205,15 +199,15 @@ fn cause_words(alloc: Global, cause: Unmet) -> Result<String, AllocError>
 }
 
 /// The words of a network's kind and counts.
-fn counts_words(
-    alloc: Global,
-    kind: Kind,
-    inputs: u32,
-    outputs: u32,
-    gates: u32,
-) -> Result<String, AllocError>
-    ensures { IfOk result (λ text. string_bytes text ≡ counts_text kind inputs outputs gates) }
+fn counts_words(alloc: Global, counts: Counts) -> Result<String, AllocError>
+    ensures { IfOk result (λ text. string_bytes text ≡ counts_text counts) }
 {
+    let Counts {
+        kind,
+        inputs,
+        outputs,
+        gates,
+    } = counts;
     let word = kind_word(kind);
     format!(in alloc; "{word} inputs {inputs} outputs {outputs} gates {gates}")
 }
@@ -230,13 +224,8 @@ pub fn text_of_reply(alloc: Global, index: u32, reply: Reply) -> Result<String, 
     ensures { IfOk result (λ text. string_bytes text ≡ reply_text index reply) }
 {
     match reply {
-        Reply::Network {
-            kind,
-            inputs,
-            outputs,
-            gates,
-        } => {
-            let counts = counts_words(alloc, kind, inputs, outputs, gates)?;
+        Reply::Network(counts) => {
+            let counts = counts_words(alloc, counts)?;
             format!(in alloc; "network {counts}\n")
         }
         Reply::Wrote(bytes) => format!(in alloc; "wrote {bytes}\n"),
@@ -252,14 +241,8 @@ pub fn text_of_reply(alloc: Global, index: u32, reply: Reply) -> Result<String, 
             format!(in alloc; "outputs {word}\n")
         }
         Reply::Merged { node, gates } => format!(in alloc; "merged {node} gates {gates}\n"),
-        Reply::Stats {
-            kind,
-            inputs,
-            outputs,
-            gates,
-            depth,
-        } => {
-            let counts = counts_words(alloc, kind, inputs, outputs, gates)?;
+        Reply::Stats { counts, depth } => {
+            let counts = counts_words(alloc, counts)?;
             stats_line(alloc, &counts, depth)
         }
         Reply::Unmet(cause) => {

@@ -12,7 +12,7 @@ ghost use Rattle.lnet_resyn.specs.declared.proposal.Proposal.TheVariants.{Use};
 use crate::plain::shannon_proposal;
 use crate::proposal::Proposal;
 use arrayvec::ArrayVec;
-use lnet_tables::{Lit, Recipe, Step, StepOp, Table};
+use lnet_tables::{Lit, Recipe, Step, StepOp, Table, first_rows};
 
 /// A majority of three columns of the pool, each plain or complemented.
 #[derive(Clone, Copy)]
@@ -40,7 +40,7 @@ fn agreements(vars: u8, target: u64, word: u64) -> u32
     ensures value { result ≡ agreements_of (word_rows vars target) (word_rows vars word) }
     ensures few { result ≤ 2 ^ vars }
 {
-    (!(target ^ word) & row_mask(vars)).count_ones()
+    (!(target ^ word) & first_rows(vars as usize)).count_ones()
 }
 
 /// How many rows a function of up to four variables has.
@@ -54,20 +54,6 @@ fn row_count(vars: u8) -> u32
         2 => 4,
         3 => 8,
         _ => 16,
-    }
-}
-
-/// The rows of a function of up to four variables, as the bits of a number.
-fn row_mask(vars: u8) -> u64
-    requires { vars ≤ 4 }
-    ensures { result ≡ 2 ^ 2 ^ vars - 1 }
-{
-    match vars {
-        0 => 0x1,
-        1 => 0x3,
-        2 => 0xf,
-        3 => 0xff,
-        _ => 0xffff,
     }
 }
 

@@ -3,10 +3,7 @@ use Rattle.std.proofs.Common.{◌≡◌, ℕ, ◌≤◌, Bool, true, false, ◌&
 use Rattle.lnet_gates.specs.declared.signal.Signal.{Signal}
 use Rattle.lnet_gates.specs.declared.gate.Kind.{Kind}
 use Rattle.lnet_gates.specs.declared.gate.Op.TheVariants as op
-use Rattle.lnet_gates.specs.declared.normal.Normal.{Normal}
-use Rattle.lnet_gates.specs.Gates.{GateValue, flip}
-use Rattle.lnet_gates.specs.Natives.{IsNativeGate}
-use Rattle.lnet_gates.specs.NormalLaws.{NormalLaws}
+use Rattle.lnet_gates.specs.Gates.{flip}
 use Rattle.lnet_gates.specs.Operands.{complemented, constant}
 use Rattle.lnet_gates.specs.Lawful.OperandLemmas.{read-flipped}
 use Rattle.lnet_model.specs.Networks.{NetworkValue, IsLive, live_count}
@@ -75,22 +72,22 @@ or-by-and true false = refl
 or-by-and false true = refl
 or-by-and false false = refl
 
-module _ (kind : Kind) (form : GateValue → Normal) (laws : NormalLaws (IsNativeGate kind) form) where
-  pub join-stands : (how : Join) (N : NetworkValue) (s t : Signal) → IsStored N → IsLive N s.node.0 → IsLive N t.node.0 → live_count (by_join kind form how N s t).network ≤ NUMBERS → Stands N (λ a. join_bits how (signal_value N a s) (signal_value N a t)) (by_join kind form how N s t)
-  join-stands And N s t stored here there few = made-stands kind form laws N op.And (s ∷ t ∷ []) refl tt stored (both-live N s t here there) few
-  join-stands Xor N s t stored here there few = made-stands kind form laws N op.Xor (s ∷ t ∷ []) refl tt stored (both-live N s t here there) few
+module _ (kind : Kind) where
+  pub join-stands : (how : Join) (N : NetworkValue) (s t : Signal) → IsStored N → IsLive N s.node.0 → IsLive N t.node.0 → live_count (by_join kind how N s t).network ≤ NUMBERS → Stands N (λ a. join_bits how (signal_value N a s) (signal_value N a t)) (by_join kind how N s t)
+  join-stands And N s t stored here there few = made-stands kind N op.And (s ∷ t ∷ []) refl tt stored (both-live N s t here there) few
+  join-stands Xor N s t stored here there few = made-stands kind N op.Xor (s ∷ t ∷ []) refl tt stored (both-live N s t here there) few
   join-stands Or N s t stored here there few =
-      let both = made-stands kind form laws N op.And (complemented s ∷ complemented t ∷ []) refl tt stored (both-live N (complemented s) (complemented t) here there) few in
-      stands-as N _ (λ a. signal_value N a s || signal_value N a t) (by_join kind form Or N s t)
+      let both = made-stands kind N op.And (complemented s ∷ complemented t ∷ []) refl tt stored (both-live N (complemented s) (complemented t) here there) few in
+      stands-as N _ (λ a. signal_value N a s || signal_value N a t) (by_join kind Or N s t)
       (λ a. (λ i. flip true (read-flipped (node_value N a) true s i && read-flipped (node_value N a) true t i)) ∙ or-by-and (signal_value N a s) (signal_value N a t))
       (stands-turned N _ true _ both)
 
-  pub joined_from-stands : (how : Join) (N : NetworkValue) (v : (ℕ → Bool) → Bool) (p : Placed) (ss : List Signal) → Stands N v p → AreLive N (nodes_read ss) → live_count (joined_from kind form how p ss).network ≤ NUMBERS → Stands N (λ a. joined_bits how (v a) (map (signal_value N a) ss)) (joined_from kind form how p ss)
+  pub joined_from-stands : (how : Join) (N : NetworkValue) (v : (ℕ → Bool) → Bool) (p : Placed) (ss : List Signal) → Stands N v p → AreLive N (nodes_read ss) → live_count (joined_from kind how p ss).network ≤ NUMBERS → Stands N (λ a. joined_bits how (v a) (map (signal_value N a) ss)) (joined_from kind how p ss)
   unfolding joined_from
   joined_from-stands how N v p [] h live few = h
   joined_from-stands how N v p (s ∷ ss) h live few =
-      let q : Placed = by_join kind form how p.network p.signal s in
-      let more = joined_from-grows kind form how q ss in
+      let q : Placed = by_join kind how p.network p.signal s in
+      let more = joined_from-grows kind how q ss in
       let old = live s.node.0 (inl refl) in
       let step = join-stands how p.network p.signal s h.stored h.live (extends-live N p.network h.extends s.node.0 old) (omega arith) in
       let next = stands-as N _ (λ a. join_bits how (v a) (signal_value N a s)) q
@@ -99,7 +96,7 @@ module _ (kind : Kind) (form : GateValue → Normal) (laws : NormalLaws (IsNativ
       joined_from-stands how N (λ a. join_bits how (v a) (signal_value N a s)) q ss next (λ m i. live m (inr i)) few
 
   -- signals folded have the folded value
-  pub folded-stands : (how : Join) (none : Bool) (N : NetworkValue) (ss : List Signal) → IsStored N → AreLive N (nodes_read ss) → live_count (folded kind form how none N ss).network ≤ NUMBERS → Stands N (λ a. folded_bits how none (map (signal_value N a) ss)) (folded kind form how none N ss)
+  pub folded-stands : (how : Join) (none : Bool) (N : NetworkValue) (ss : List Signal) → IsStored N → AreLive N (nodes_read ss) → live_count (folded kind how none N ss).network ≤ NUMBERS → Stands N (λ a. folded_bits how none (map (signal_value N a) ss)) (folded kind how none N ss)
   folded-stands how none N [] stored live few = stands-constant N none stored
   folded-stands how none N (s ∷ ss) stored live few =
       joined_from-stands how N (λ a. signal_value N a s) (record { network = N; signal = s }) ss (stands-self N s stored (live s.node.0 (inl refl))) (λ m i. live m (inr i)) few

@@ -12,10 +12,7 @@ use Rattle.lnet_tables.proofs.Depends.{number_bit}
 use Rattle.lnet_gates.specs.declared.signal.Signal.{Signal}
 use Rattle.lnet_gates.specs.declared.gate.Kind.{Kind}
 use Rattle.lnet_gates.specs.declared.gate.Op.TheVariants as op
-use Rattle.lnet_gates.specs.declared.normal.Normal.{Normal}
-use Rattle.lnet_gates.specs.Gates.{GateValue, flip, row_of, maj_of, operate}
-use Rattle.lnet_gates.specs.Natives.{IsNativeGate}
-use Rattle.lnet_gates.specs.NormalLaws.{NormalLaws}
+use Rattle.lnet_gates.specs.Gates.{flip, row_of, maj_of, operate}
 use Rattle.lnet_gates.specs.Operands.{complemented}
 use Rattle.lnet_gates.specs.Lawful.OperandLemmas.{read-flipped}
 use Rattle.lnet_model.specs.Networks.{NetworkValue, live_count}
@@ -141,56 +138,56 @@ cover-some value row rows bits = elim (eqb_tells (length (row ∷ rows)) 0) as (
   | inr p ↦ sym (ap (λ b. if b then false else turned_bit (not value) (list_any (λ (r : List ℕ). row_holds r bits) (row ∷ rows))) p.0)
 ]
 
-module _ (kind : Kind) (form : GateValue → Normal) (laws : NormalLaws (IsNativeGate kind) form) where
-  row-stands : (N : NetworkValue) (row : List ℕ) (ss : List Signal) → IsStored N → AreLive N (nodes_read ss) → live_count (row_built kind form N row ss).network ≤ NUMBERS → Stands N (λ a. row_holds row (map (signal_value N a) ss)) (row_built kind form N row ss)
+module _ (kind : Kind) where
+  row-stands : (N : NetworkValue) (row : List ℕ) (ss : List Signal) → IsStored N → AreLive N (nodes_read ss) → live_count (row_built kind N row ss).network ≤ NUMBERS → Stands N (λ a. row_holds row (map (signal_value N a) ss)) (row_built kind N row ss)
   row-stands N row ss stored live few =
-      stands-as N _ (λ a. row_holds row (map (signal_value N a) ss)) (row_built kind form N row ss) (λ a. folded-all (map (signal_value N a) (literals row ss)) ∙ literals-value N a row ss)
-      (folded-stands kind form laws And true N (literals row ss) stored (literals-live N row ss live) few)
+      stands-as N _ (λ a. row_holds row (map (signal_value N a) ss)) (row_built kind N row ss) (λ a. folded-all (map (signal_value N a) (literals row ss)) ∙ literals-value N a row ss)
+      (folded-stands kind And true N (literals row ss) stored (literals-live N row ss live) few)
 
-  with_row-stands : (N : NetworkValue) (v : (ℕ → Bool) → Bool) (p : Placed) (row : List ℕ) (ss : List Signal) → Stands N v p → AreLive N (nodes_read ss) → live_count (with_row kind form p row ss).network ≤ NUMBERS → Stands N (λ a. v a || row_holds row (map (signal_value N a) ss)) (with_row kind form p row ss)
+  with_row-stands : (N : NetworkValue) (v : (ℕ → Bool) → Bool) (p : Placed) (row : List ℕ) (ss : List Signal) → Stands N v p → AreLive N (nodes_read ss) → live_count (with_row kind p row ss).network ≤ NUMBERS → Stands N (λ a. v a || row_holds row (map (signal_value N a) ss)) (with_row kind p row ss)
   with_row-stands N v p row ss h live few =
-      let q : Placed = row_built kind form p.network row ss in
-      let more = row-within kind form p row ss in
+      let q : Placed = row_built kind p.network row ss in
+      let more = row-within kind p row ss in
       let built = row-stands p.network row ss h.stored (extends-all_live N p.network h.extends (nodes_read ss) live) (omega arith) in
-      let both = join-stands kind form laws Or q.network p.signal q.signal built.stored (extends-live p.network q.network built.extends p.signal.node.0 h.live) built.live few in
-      stands-as N _ (λ a. v a || row_holds row (map (signal_value N a) ss)) (with_row kind form p row ss)
+      let both = join-stands kind Or q.network p.signal q.signal built.stored (extends-live p.network q.network built.extends p.signal.node.0 h.live) built.live few in
+      stands-as N _ (λ a. v a || row_holds row (map (signal_value N a) ss)) (with_row kind p row ss)
       (λ a i. (extends-signal p.network q.network built.extends a p.signal h.live ∙ h.valued a) i || (built.valued a ∙ ap (row_holds row) (extends-signals N p.network h.extends a ss live)) i)
-      (stands-after N v _ p (with_row kind form p row ss) h (stands-after p.network _ _ q (with_row kind form p row ss) built both))
+      (stands-after N v _ p (with_row kind p row ss) h (stands-after p.network _ _ q (with_row kind p row ss) built both))
 
-  rows_from-stands : (N : NetworkValue) (v : (ℕ → Bool) → Bool) (p : Placed) (rows : List (List ℕ)) (ss : List Signal) → Stands N v p → AreLive N (nodes_read ss) → live_count (rows_from kind form p rows ss).network ≤ NUMBERS → Stands N (λ a. rows_bits (v a) rows (map (signal_value N a) ss)) (rows_from kind form p rows ss)
+  rows_from-stands : (N : NetworkValue) (v : (ℕ → Bool) → Bool) (p : Placed) (rows : List (List ℕ)) (ss : List Signal) → Stands N v p → AreLive N (nodes_read ss) → live_count (rows_from kind p rows ss).network ≤ NUMBERS → Stands N (λ a. rows_bits (v a) rows (map (signal_value N a) ss)) (rows_from kind p rows ss)
   unfolding rows_from
   rows_from-stands N v p [] ss h live few = stands-as N v (λ a. v a || false) p (λ a. rows-none (v a)) h
   rows_from-stands N v p (row ∷ rows) ss h live few =
-      let q : Placed = with_row kind form p row ss in
-      let more = rows_from-grows kind form q rows ss in
+      let q : Placed = with_row kind p row ss in
+      let more = rows_from-grows kind q rows ss in
       let once = with_row-stands N v p row ss h live (omega arith) in
-      stands-as N _ (λ a. rows_bits (v a) (row ∷ rows) (map (signal_value N a) ss)) (rows_from kind form q rows ss)
+      stands-as N _ (λ a. rows_bits (v a) (row ∷ rows) (map (signal_value N a) ss)) (rows_from kind q rows ss)
       (λ a. rows-more (v a) (row_holds row (map (signal_value N a) ss)) (list_any (λ (r : List ℕ). row_holds r (map (signal_value N a) ss)) rows))
       (rows_from-stands N (λ a. v a || row_holds row (map (signal_value N a) ss)) q rows ss once live few)
 
-  by_rows-stands : (N : NetworkValue) (cover : CoverValue) (ss : List Signal) → IsStored N → AreLive N (nodes_read ss) → live_count (by_rows kind form N cover.value cover.rows ss).network ≤ NUMBERS → Stands N (λ a. cover_value cover (map (signal_value N a) ss)) (by_rows kind form N cover.value cover.rows ss)
+  by_rows-stands : (N : NetworkValue) (cover : CoverValue) (ss : List Signal) → IsStored N → AreLive N (nodes_read ss) → live_count (by_rows kind N cover.value cover.rows ss).network ≤ NUMBERS → Stands N (λ a. cover_value cover (map (signal_value N a) ss)) (by_rows kind N cover.value cover.rows ss)
   by_rows-stands N cover ss stored live few = go cover.value cover.rows few
     where
-      go : (value : Bool) (rows : List (List ℕ)) → live_count (by_rows kind form N value rows ss).network ≤ NUMBERS → Stands N (λ a. cover_value (record { value = value; rows = rows }) (map (signal_value N a) ss)) (by_rows kind form N value rows ss)
+      go : (value : Bool) (rows : List (List ℕ)) → live_count (by_rows kind N value rows ss).network ≤ NUMBERS → Stands N (λ a. cover_value (record { value = value; rows = rows }) (map (signal_value N a) ss)) (by_rows kind N value rows ss)
       go value [] few = stands-constant N false stored
       go value (row ∷ rows) few =
-          let first = row_built kind form N row ss in
-          let more = rows_from-grows kind form first rows ss in
-          stands-as N _ (λ a. cover_value (record { value = value; rows = row ∷ rows }) (map (signal_value N a) ss)) (by_rows kind form N value (row ∷ rows) ss)
+          let first = row_built kind N row ss in
+          let more = rows_from-grows kind first rows ss in
+          stands-as N _ (λ a. cover_value (record { value = value; rows = row ∷ rows }) (map (signal_value N a) ss)) (by_rows kind N value (row ∷ rows) ss)
           (λ a. flip-is (not value) (rows_bits (row_holds row (map (signal_value N a) ss)) rows (map (signal_value N a) ss)) ∙ cover-some value row rows (map (signal_value N a) ss))
-          (stands-turned N _ (not value) (rows_from kind form first rows ss) (rows_from-stands N _ first rows ss (row-stands N row ss stored live (omega arith)) live few))
+          (stands-turned N _ (not value) (rows_from kind first rows ss) (rows_from-stands N _ first rows ss (row-stands N row ss stored live (omega arith)) live few))
 
-  cover-stands : (N : NetworkValue) (cover : CoverValue) (ss : List Signal) → IsStored N → AreLive N (nodes_read ss) → live_count (cover_built kind form N cover ss).network ≤ NUMBERS → Stands N (λ a. cover_value cover (map (signal_value N a) ss)) (cover_built kind form N cover ss)
+  cover-stands : (N : NetworkValue) (cover : CoverValue) (ss : List Signal) → IsStored N → AreLive N (nodes_read ss) → live_count (cover_built kind N cover ss).network ≤ NUMBERS → Stands N (λ a. cover_value cover (map (signal_value N a) ss)) (cover_built kind N cover ss)
   cover-stands N cover ss stored live few = by_kind (has_tables kind) (nat_le (length ss) 6) refl few
     where
-      by_kind : (t l : Bool) → nat_le (length ss) 6 ≡ l → live_count (if t && l then made kind form N (op.Lut (cover_table cover (length ss))) ss else by_rows kind form N cover.value cover.rows ss).network ≤ NUMBERS → Stands N (λ a. cover_value cover (map (signal_value N a) ss)) (if t && l then made kind form N (op.Lut (cover_table cover (length ss))) ss else by_rows kind form N cover.value cover.rows ss)
+      by_kind : (t l : Bool) → nat_le (length ss) 6 ≡ l → live_count (if t && l then made kind N (op.Lut (cover_table cover (length ss))) ss else by_rows kind N cover.value cover.rows ss).network ≤ NUMBERS → Stands N (λ a. cover_value cover (map (signal_value N a) ss)) (if t && l then made kind N (op.Lut (cover_table cover (length ss))) ss else by_rows kind N cover.value cover.rows ss)
       by_kind true true is few =
           let six : length ss ≤ 6 = leb-true (length ss) 6 is in
-          stands-as N _ (λ a. cover_value cover (map (signal_value N a) ss)) (made kind form N (op.Lut (cover_table cover (length ss))) ss)
+          stands-as N _ (λ a. cover_value cover (map (signal_value N a) ss)) (made kind N (op.Lut (cover_table cover (length ss))) ss)
           (λ a.
           let long : length (map (signal_value N a) ss) ≡ length ss = length-map ss (signal_value N a) in
           ap (λ n. operate (op.Lut (cover_table cover n)) (map (signal_value N a) ss)) (sym long) ∙ table-value cover (map (signal_value N a) ss) (omega arith))
-          (made-stands kind form laws N (op.Lut (cover_table cover (length ss))) ss six (number_below (λ r. cover_value cover (bits_of (length ss) r)) 64) stored live few)
+          (made-stands kind N (op.Lut (cover_table cover (length ss))) ss six (number_below (λ r. cover_value cover (bits_of (length ss) r)) 64) stored live few)
       by_kind true false is few = by_rows-stands N cover ss stored live few
       by_kind false l is few = by_rows-stands N cover ss stored live few
 
@@ -205,17 +202,17 @@ module _ (kind : Kind) (form : GateValue → Normal) (laws : NormalLaws (IsNativ
   turned-stands N v w c p same h = stands-as N _ (λ a. turned_bit c (w a)) (turned c p) (λ a. flip-is c (v a) ∙ ap (turned_bit c) (same a)) (stands-turned N v c p h)
 
   -- a rule that is built has the rule's value on the values of its operands, and the rest keeps its values
-  pub rule-stands : (N : NetworkValue) (r : Rule) (ss : List Signal) → HasArity r (length ss) → FitsTable r → IsStored N → AreLive N (nodes_read ss) → live_count (rule_built kind form N r ss).network ≤ NUMBERS → Stands N (λ a. under_rule r (map (signal_value N a) ss)) (rule_built kind form N r ss)
+  pub rule-stands : (N : NetworkValue) (r : Rule) (ss : List Signal) → HasArity r (length ss) → FitsTable r → IsStored N → AreLive N (nodes_read ss) → live_count (rule_built kind N r ss).network ≤ NUMBERS → Stands N (λ a. under_rule r (map (signal_value N a) ss)) (rule_built kind N r ss)
   rule-stands N (rule.And c) ss arity fits stored live few =
-      turned-stands N _ (λ a. all_bits (map (signal_value N a) ss)) c (folded kind form And true N ss) (λ a. folded-all (map (signal_value N a) ss)) (folded-stands kind form laws And true N ss stored live few)
+      turned-stands N _ (λ a. all_bits (map (signal_value N a) ss)) c (folded kind And true N ss) (λ a. folded-all (map (signal_value N a) ss)) (folded-stands kind And true N ss stored live few)
   rule-stands N (rule.Or c) ss arity fits stored live few =
-      turned-stands N _ (λ a. any_bit (map (signal_value N a) ss)) c (folded kind form Or false N ss) (λ a. folded-any (map (signal_value N a) ss)) (folded-stands kind form laws Or false N ss stored live few)
+      turned-stands N _ (λ a. any_bit (map (signal_value N a) ss)) c (folded kind Or false N ss) (λ a. folded-any (map (signal_value N a) ss)) (folded-stands kind Or false N ss stored live few)
   rule-stands N (rule.Xor c) ss arity fits stored live few =
-      turned-stands N _ (λ a. parity (map (signal_value N a) ss)) c (folded kind form Xor false N ss) (λ a. folded-odd (map (signal_value N a) ss)) (folded-stands kind form laws Xor false N ss stored live few)
+      turned-stands N _ (λ a. parity (map (signal_value N a) ss)) c (folded kind Xor false N ss) (λ a. folded-odd (map (signal_value N a) ss)) (folded-stands kind Xor false N ss stored live few)
   rule-stands N (rule.Maj c) ss arity fits stored live few =
-      turned-stands N _ (λ a. majority (map (signal_value N a) ss)) c (made kind form N op.Maj ss) (λ a. majority-of (map (signal_value N a) ss) (length-map ss (signal_value N a) ∙ arity)) (made-stands kind form laws N op.Maj ss arity tt stored live few)
+      turned-stands N _ (λ a. majority (map (signal_value N a) ss)) c (made kind N op.Maj ss) (λ a. majority-of (map (signal_value N a) ss) (length-map ss (signal_value N a) ∙ arity)) (made-stands kind N op.Maj ss arity tt stored live few)
   rule-stands N (rule.Lut table) ss arity fits stored live few =
-      stands-as N _ (λ a. table_bit table (row_number (map (signal_value N a) ss))) (made kind form N (op.Lut table) ss)
+      stands-as N _ (λ a. table_bit table (row_number (map (signal_value N a) ss))) (made kind N (op.Lut table) ss)
       (λ a. ap (table_bit table) (sym (number-is (map (signal_value N a) ss))))
-      (made-stands kind form laws N (op.Lut table) ss arity fits stored live few)
+      (made-stands kind N (op.Lut table) ss arity fits stored live few)
   rule-stands N (rule.Cover cover) ss arity fits stored live few = cover-stands N cover ss stored live few

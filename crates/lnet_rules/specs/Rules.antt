@@ -6,8 +6,6 @@ use Rattle.lnet_gates.specs.declared.signal.Signal.{Signal}
 use Rattle.lnet_gates.specs.declared.gate.Kind.{Kind}
 use Rattle.lnet_gates.specs.declared.gate.Kind.TheVariants.{Aig, Xag, Mig, Klut}
 use Rattle.lnet_gates.specs.declared.gate.Op.TheVariants as op
-use Rattle.lnet_gates.specs.declared.normal.Normal.{Normal}
-use Rattle.lnet_gates.specs.Gates.{GateValue}
 use Rattle.lnet_gates.specs.Operands.{complemented, constant, flipped}
 use Rattle.lnet_model.specs.Networks.{NetworkValue}
 use Rattle.lnet_hashed.specs.Strashed.{Placed}
@@ -31,26 +29,26 @@ literals (cell ∷ row) (s ∷ ss) = literal_of cell s ++ literals row ss
 literals _ _ = []
 
 -- the signals of a row joined by and: none gives true
-abbrev pub row_built : Kind → (GateValue → Normal) → NetworkValue → List ℕ → List Signal → Placed
-row_built kind form N row ss = folded kind form And true N (literals row ss)
+abbrev pub row_built : Kind → NetworkValue → List ℕ → List Signal → Placed
+row_built kind N row ss = folded kind And true N (literals row ss)
 
 -- a row built, and joined by or with what the rows before it gave
-abbrev pub with_row : Kind → (GateValue → Normal) → Placed → List ℕ → List Signal → Placed
-with_row kind form p row ss = let q : Placed = row_built kind form p.network row ss in by_join kind form Or q.network p.signal q.signal
+abbrev pub with_row : Kind → Placed → List ℕ → List Signal → Placed
+with_row kind p row ss = let q : Placed = row_built kind p.network row ss in by_join kind Or q.network p.signal q.signal
 
-unfoldable pub rows_from : Kind → (GateValue → Normal) → Placed → List (List ℕ) → List Signal → Placed
-rows_from kind form p [] ss = p
-rows_from kind form p (row ∷ rows) ss = rows_from kind form (with_row kind form p row ss) rows ss
+unfoldable pub rows_from : Kind → Placed → List (List ℕ) → List Signal → Placed
+rows_from kind p [] ss = p
+rows_from kind p (row ∷ rows) ss = rows_from kind (with_row kind p row ss) rows ss
 
 -- the rows one after another, each built after the `or` of those before it; no row gives false
-abbrev pub rows_built : Kind → (GateValue → Normal) → NetworkValue → List (List ℕ) → List Signal → Placed
-rows_built kind form N [] ss = record { network = N; signal = constant false }
-rows_built kind form N (row ∷ rows) ss = rows_from kind form (row_built kind form N row ss) rows ss
+abbrev pub rows_built : Kind → NetworkValue → List (List ℕ) → List Signal → Placed
+rows_built kind N [] ss = record { network = N; signal = constant false }
+rows_built kind N (row ∷ rows) ss = rows_from kind (row_built kind N row ss) rows ss
 
 -- a cover without rows is false, and rows of value 0 say where it is false
-abbrev pub by_rows : Kind → (GateValue → Normal) → NetworkValue → Bool → List (List ℕ) → List Signal → Placed
-by_rows kind form N value [] ss = record { network = N; signal = constant false }
-by_rows kind form N value (row ∷ rows) ss = turned (not value) (rows_built kind form N (row ∷ rows) ss)
+abbrev pub by_rows : Kind → NetworkValue → Bool → List (List ℕ) → List Signal → Placed
+by_rows kind N value [] ss = record { network = N; signal = constant false }
+by_rows kind N value (row ∷ rows) ss = turned (not value) (rows_built kind N (row ∷ rows) ss)
 
 -- the n lowest bits of a row's number, the lowest first
 abbrev pub bits_of : ℕ → ℕ → List Bool
@@ -68,20 +66,20 @@ has_tables Xag = false
 has_tables Mig = false
 
 -- a cover: one look-up table where gates are tables and there are at most six operands, and else row by row
-abbrev pub cover_built : Kind → (GateValue → Normal) → NetworkValue → CoverValue → List Signal → Placed
-cover_built kind form N cover ss =
-    if has_tables kind && nat_le (length ss) 6 then made kind form N (op.Lut (cover_table cover (length ss))) ss else by_rows kind form N cover.value cover.rows ss
+abbrev pub cover_built : Kind → NetworkValue → CoverValue → List Signal → Placed
+cover_built kind N cover ss =
+    if has_tables kind && nat_le (length ss) 6 then made kind N (op.Lut (cover_table cover (length ss))) ss else by_rows kind N cover.value cover.rows ss
 
 -- ---- rules
 
 -- the rule over the signals of the operands; its complement comes last
-abbrev pub rule_built : Kind → (GateValue → Normal) → NetworkValue → Rule → List Signal → Placed
-rule_built kind form N (rule.And c) ss = turned c (folded kind form And true N ss)
-rule_built kind form N (rule.Or c) ss = turned c (folded kind form Or false N ss)
-rule_built kind form N (rule.Xor c) ss = turned c (folded kind form Xor false N ss)
-rule_built kind form N (rule.Maj c) ss = turned c (made kind form N op.Maj ss)
-rule_built kind form N (rule.Lut table) ss = made kind form N (op.Lut table) ss
-rule_built kind form N (rule.Cover cover) ss = cover_built kind form N cover ss
+abbrev pub rule_built : Kind → NetworkValue → Rule → List Signal → Placed
+rule_built kind N (rule.And c) ss = turned c (folded kind And true N ss)
+rule_built kind N (rule.Or c) ss = turned c (folded kind Or false N ss)
+rule_built kind N (rule.Xor c) ss = turned c (folded kind Xor false N ss)
+rule_built kind N (rule.Maj c) ss = turned c (made kind N op.Maj ss)
+rule_built kind N (rule.Lut table) ss = made kind N (op.Lut table) ss
+rule_built kind N (rule.Cover cover) ss = cover_built kind N cover ss
 
 -- an answer, its signal as it is or complemented
 abbrev pub turned_answer : {E : Type 0} → Bool → Result Signal E → Result Signal E

@@ -36,10 +36,10 @@ pub(crate) fn make<G: Gates>(
     requires arity { Takes op (length operands.now) }
     requires live { AreLive net.old.core.network (nodes_read operands.now) }
     requires none { IsBare net.old.watch }
-    ensures made { IfOk result (λ s. made G.KIND G.form net.old.core.network op operands.now ≡ record { network = net.new.core.network; signal = s }) }
+    ensures made { IfOk result (λ s. made G.KIND net.old.core.network op operands.now ≡ record { network = net.new.core.network; signal = s }) }
     ensures live { IfOk result (λ s. IsLive net.new.core.network s.node.0) }
     ensures keeps { OnOk result (KeepsLive net.old.core.network net.new.core.network) }
-    ensures full { result ≡ Err AddError.Full → NUMBERS < live_count (made G.KIND G.form net.old.core.network op operands.now).network }
+    ensures full { result ≡ Err AddError.Full → NUMBERS < live_count (made G.KIND net.old.core.network op operands.now).network }
     ensures none { IsBare net.new.watch }
 {
     net.gate(op, operands)
@@ -55,10 +55,10 @@ pub(crate) fn join_two<G: Gates>(
     requires live_a { IsLive net.old.core.network a.node.0 }
     requires live_b { IsLive net.old.core.network b.node.0 }
     requires none { IsBare net.old.watch }
-    ensures built { IfOk result (λ s. by_join G.KIND G.form how net.old.core.network a b ≡ record { network = net.new.core.network; signal = s }) }
+    ensures built { IfOk result (λ s. by_join G.KIND how net.old.core.network a b ≡ record { network = net.new.core.network; signal = s }) }
     ensures live { IfOk result (λ s. IsLive net.new.core.network s.node.0) }
     ensures keeps { OnOk result (KeepsLive net.old.core.network net.new.core.network) }
-    ensures full { result ≡ Err AddError.Full → NUMBERS < live_count (by_join G.KIND G.form how net.old.core.network a b).network }
+    ensures full { result ≡ Err AddError.Full → NUMBERS < live_count (by_join G.KIND how net.old.core.network a b).network }
     ensures none { IsBare net.new.watch }
 {
     match how {
@@ -80,10 +80,10 @@ pub fn fold<G: Gates>(
 ) -> Result<Signal, AddError>
     requires live { AreLive net.old.core.network (nodes_read signals.now) }
     requires none { IsBare net.old.watch }
-    ensures built { IfOk result (λ s. folded G.KIND G.form how none net.old.core.network signals.now ≡ record { network = net.new.core.network; signal = s }) }
+    ensures built { IfOk result (λ s. folded G.KIND how none net.old.core.network signals.now ≡ record { network = net.new.core.network; signal = s }) }
     ensures live { IfOk result (λ s. IsLive net.new.core.network s.node.0) }
     ensures keeps { OnOk result (KeepsLive net.old.core.network net.new.core.network) }
-    ensures full { result ≡ Err AddError.Full → NUMBERS < live_count (folded G.KIND G.form how none net.old.core.network signals.now).network }
+    ensures full { result ≡ Err AddError.Full → NUMBERS < live_count (folded G.KIND how none net.old.core.network signals.now).network }
     ensures none { IsBare net.new.watch }
 {
     let _live = net.live_count();
@@ -103,10 +103,10 @@ fn join_all<G: Gates>(
     requires first { IsLive net.old.core.network first.node.0 }
     requires live { AreLive net.old.core.network (nodes_read others.now) }
     requires none { IsBare net.old.watch }
-    ensures built { IfOk result (λ s. joined_from G.KIND G.form how (record { network = net.old.core.network; signal = first }) others.now ≡ record { network = net.new.core.network; signal = s }) }
+    ensures built { IfOk result (λ s. joined_from G.KIND how (record { network = net.old.core.network; signal = first }) others.now ≡ record { network = net.new.core.network; signal = s }) }
     ensures live { IfOk result (λ s. IsLive net.new.core.network s.node.0) }
     ensures keeps { OnOk result (KeepsLive net.old.core.network net.new.core.network) }
-    ensures full { result ≡ Err AddError.Full → NUMBERS < live_count (joined_from G.KIND G.form how (record { network = net.old.core.network; signal = first }) others.now).network }
+    ensures full { result ≡ Err AddError.Full → NUMBERS < live_count (joined_from G.KIND how (record { network = net.old.core.network; signal = first }) others.now).network }
     ensures none { IsBare net.new.watch }
 {
     let mut joined = first;

@@ -30,10 +30,10 @@ fn build_row<G: Gates>(
     requires width { length row.now ≡ length operands.now }
     requires live { AreLive net.old.core.network (nodes_read operands.now) }
     requires none { IsBare net.old.watch }
-    ensures built { IfOk result (λ s. row_built G.KIND G.form net.old.core.network row.now operands.now ≡ record { network = net.new.core.network; signal = s }) }
+    ensures built { IfOk result (λ s. row_built G.KIND net.old.core.network row.now operands.now ≡ record { network = net.new.core.network; signal = s }) }
     ensures live { IfOk result (λ s. IsLive net.new.core.network s.node.0) }
     ensures keeps { OnOk result (KeepsLive net.old.core.network net.new.core.network) }
-    ensures full { result ≡ Err AddError.Full → NUMBERS < live_count (row_built G.KIND G.form net.old.core.network row.now operands.now).network }
+    ensures full { result ≡ Err AddError.Full → NUMBERS < live_count (row_built G.KIND net.old.core.network row.now operands.now).network }
     ensures none { IsBare net.new.watch }
 {
     match literals_of(alloc, row, operands) {
@@ -54,10 +54,10 @@ fn add_row<G: Gates>(
     requires live { AreLive net.old.core.network (nodes_read operands.now) }
     requires before { IsLive net.old.core.network before.node.0 }
     requires none { IsBare net.old.watch }
-    ensures built { IfOk result (λ s. with_row G.KIND G.form (record { network = net.old.core.network; signal = before }) row.now operands.now ≡ record { network = net.new.core.network; signal = s }) }
+    ensures built { IfOk result (λ s. with_row G.KIND (record { network = net.old.core.network; signal = before }) row.now operands.now ≡ record { network = net.new.core.network; signal = s }) }
     ensures live { IfOk result (λ s. IsLive net.new.core.network s.node.0) }
     ensures keeps { OnOk result (KeepsLive net.old.core.network net.new.core.network) }
-    ensures full { result ≡ Err AddError.Full → NUMBERS < live_count (with_row G.KIND G.form (record { network = net.old.core.network; signal = before }) row.now operands.now).network }
+    ensures full { result ≡ Err AddError.Full → NUMBERS < live_count (with_row G.KIND (record { network = net.old.core.network; signal = before }) row.now operands.now).network }
     ensures none { IsBare net.new.watch }
 {
     match build_row(alloc, net, row, operands) {
@@ -77,10 +77,10 @@ fn add_rows<G: Gates>(
     requires width { HasArity (Cover cover.now) (length operands.now) }
     requires live { AreLive net.old.core.network (nodes_read operands.now) }
     requires none { IsBare net.old.watch }
-    ensures built { IfOk result (λ s. rows_built G.KIND G.form net.old.core.network cover.now.rows operands.now ≡ record { network = net.new.core.network; signal = s }) }
+    ensures built { IfOk result (λ s. rows_built G.KIND net.old.core.network cover.now.rows operands.now ≡ record { network = net.new.core.network; signal = s }) }
     ensures live { IfOk result (λ s. IsLive net.new.core.network s.node.0) }
     ensures keeps { OnOk result (KeepsLive net.old.core.network net.new.core.network) }
-    ensures full { result ≡ Err AddError.Full → NUMBERS < live_count (rows_built G.KIND G.form net.old.core.network cover.now.rows operands.now).network }
+    ensures full { result ≡ Err AddError.Full → NUMBERS < live_count (rows_built G.KIND net.old.core.network cover.now.rows operands.now).network }
     ensures none { IsBare net.new.watch }
 {
     let mut built = build_row(alloc, net, cover.row(0), operands)?;
@@ -100,10 +100,10 @@ pub(crate) fn build_rows<G: Gates>(
     requires width { HasArity (Cover cover.now) (length operands.now) }
     requires live { AreLive net.old.core.network (nodes_read operands.now) }
     requires none { IsBare net.old.watch }
-    ensures built { IfOk result (λ s. by_rows G.KIND G.form net.old.core.network cover.now.value cover.now.rows operands.now ≡ record { network = net.new.core.network; signal = s }) }
+    ensures built { IfOk result (λ s. by_rows G.KIND net.old.core.network cover.now.value cover.now.rows operands.now ≡ record { network = net.new.core.network; signal = s }) }
     ensures live { IfOk result (λ s. IsLive net.new.core.network s.node.0) }
     ensures keeps { OnOk result (KeepsLive net.old.core.network net.new.core.network) }
-    ensures full { result ≡ Err AddError.Full → NUMBERS < live_count (by_rows G.KIND G.form net.old.core.network cover.now.value cover.now.rows operands.now).network }
+    ensures full { result ≡ Err AddError.Full → NUMBERS < live_count (by_rows G.KIND net.old.core.network cover.now.value cover.now.rows operands.now).network }
     ensures none { IsBare net.new.watch }
 {
     if cover.len() == 0 {

@@ -40,10 +40,10 @@ pub fn build_rule<G: Gates>(
     requires arity { HasArity rule.now (length operands.now) }
     requires live { AreLive net.old.core.network (nodes_read operands.now) }
     requires none { IsBare net.old.watch }
-    ensures built { IfOk result (λ s. rule_built G.KIND G.form net.old.core.network rule.now operands.now ≡ record { network = net.new.core.network; signal = s }) }
+    ensures built { IfOk result (λ s. rule_built G.KIND net.old.core.network rule.now operands.now ≡ record { network = net.new.core.network; signal = s }) }
     ensures live { IfOk result (λ s. IsLive net.new.core.network s.node.0) }
     ensures keeps { OnOk result (KeepsLive net.old.core.network net.new.core.network) }
-    ensures full { result ≡ Err AddError.Full → NUMBERS < live_count (rule_built G.KIND G.form net.old.core.network rule.now operands.now).network }
+    ensures full { result ≡ Err AddError.Full → NUMBERS < live_count (rule_built G.KIND net.old.core.network rule.now operands.now).network }
     ensures none { IsBare net.new.watch }
     // What the value of a table's bits rests on.
     ensures word { FitsTable rule.now }
@@ -91,10 +91,10 @@ fn build_cover<G: Gates>(
     requires width { HasArity (Cover cover.now) (length operands.now) }
     requires live { AreLive net.old.core.network (nodes_read operands.now) }
     requires none { IsBare net.old.watch }
-    ensures built { IfOk result (λ s. cover_built G.KIND G.form net.old.core.network cover.now operands.now ≡ record { network = net.new.core.network; signal = s }) }
+    ensures built { IfOk result (λ s. cover_built G.KIND net.old.core.network cover.now operands.now ≡ record { network = net.new.core.network; signal = s }) }
     ensures live { IfOk result (λ s. IsLive net.new.core.network s.node.0) }
     ensures keeps { OnOk result (KeepsLive net.old.core.network net.new.core.network) }
-    ensures full { result ≡ Err AddError.Full → NUMBERS < live_count (cover_built G.KIND G.form net.old.core.network cover.now operands.now).network }
+    ensures full { result ≡ Err AddError.Full → NUMBERS < live_count (cover_built G.KIND net.old.core.network cover.now operands.now).network }
     ensures none { IsBare net.new.watch }
 {
     if has_tables(G::KIND) && operands.len() <= 6 {

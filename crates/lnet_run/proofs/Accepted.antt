@@ -41,7 +41,7 @@ from_start words end state start contents written file_faults last sink_faults n
 spelled-are : (c : Command) (words : List (List ℕ)) → Spells words c → IsCommand c
 spelled-are (command.Read format name kind) words h = tt
 spelled-are (command.Write format name) words h = tt
-spelled-are (command.Gen kind inputs gates outputs start) words h = (h.0, h.1, h.2)
+spelled-are (command.Gen kind g) words h = (h.0, h.1, h.2)
 spelled-are (command.View views.Depth) words h = tt
 spelled-are (command.View views.Fanout) words h = absurd h
 spelled-are (command.View (views.Cuts rule)) words h = absurd h

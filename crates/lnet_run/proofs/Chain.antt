@@ -10,7 +10,7 @@ use Rattle.lnet_session.specs.declared.stepping.StepEnd.TheVariants as ends
 use Rattle.lnet_replies.specs.declared.reply.Reply.{Reply}
 use Rattle.lnet_replies.specs.declared.reply.Unmet.{Unmet}
 use Rattle.lnet_replies.specs.Texts.{is_unmet, reply_text}
-use Rattle.lnet_session.specs.Steps.{World, Steps, Ended, Grows, end_of}
+use Rattle.lnet_session.specs.Steps.{World, IsQuiet, Steps, Ended, Grows, end_of}
 use Rattle.lnet_run.specs.Runs.{Scene, Turn, Runs, Ran, Stopped, AfterStop, latest, scene_of}
 
 or_false : (b : Bool) → (b || false) ≡ b
@@ -37,17 +37,19 @@ pub grows_more : (old : Option (List ℕ)) (mid new : Option (List ℕ)) (a b : 
 grows_more None mid new a b e f = subst (λ (m : Option (List ℕ)). Grows m b new) e f
 grows_more (Some o) mid new a b e f = subst (λ (m : Option (List ℕ)). Grows m b new) e f ∙ ap Some (append_assoc o a b)
 
+pub quiet_more : (old mid new : World) → IsQuiet old mid → IsQuiet mid new → IsQuiet old new
+quiet_more old mid new before after = record { file_faults = after.file_faults ∙ before.file_faults; last = after.last ∙ before.last; sink_faults = after.sink_faults ∙ before.sink_faults }
+
 -- an ended command is the next turn
-pub ran_more : (cs : List Command) (c : Command) (stop : StepEnd) (u b : Bool) (start : Option CircuitValue) (old mid new : World) (origin : Option CircuitValue) → Ran cs u start old mid origin → (ended : Ended c (length cs + 1) stop mid new) → ((answer : Reply) → stop ≡ end_of answer → b ≡ is_unmet answer) → mid.file_faults ≤ new.file_faults → mid.sink_faults ≤ new.sink_faults → Ran (cs ++ c ∷ []) (u || b) start old new (latest ended.source origin)
-ran_more cs c stop u b start old mid new origin ran ended which files sink =
+pub ran_more : (cs : List Command) (c : Command) (stop : StepEnd) (u b : Bool) (start : Option CircuitValue) (old mid new : World) (origin : Option CircuitValue) → Ran cs u start old mid origin → (ended : Ended c (length cs + 1) stop mid new) → ((answer : Reply) → stop ≡ end_of answer → b ≡ is_unmet answer) → Ran (cs ++ c ∷ []) (u || b) start old new (latest ended.source origin)
+ran_more cs c stop u b start old mid new origin ran ended which =
     let turn : Turn (1 + length cs) c (scene_of mid origin) (scene_of new (latest ended.source origin)) (reply_text (length cs + 1) ended.answer) b =
     record { answer = ended.answer; source = ended.source; effect = ended.effect; origin_is = refl; text_is = (let e : length cs + 1 ≡ 1 + length cs = omega arith in ap (λ (i : ℕ). reply_text i ended.answer) e); unmet_is = which ended.answer ended.end } in
     record {
       text = ran.text ++ reply_text (length cs + 1) ended.answer;
       runs = runs_push cs c 1 (scene_of old start) (scene_of mid origin) ran.text u (scene_of new (latest ended.source origin)) (reply_text (length cs + 1) ended.answer) b ran.runs turn;
       grows = grows_more old.written mid.written new.written ran.text (reply_text (length cs + 1) ended.answer) ran.grows ended.text;
-      file_faults = omega (arith, ran.file_faults, files);
-      sink_faults = omega (arith, ran.sink_faults, sink);
+      quiet = quiet_more old mid new ran.quiet ended.quiet;
     }
 
 -- how an end says whether the command was met
@@ -69,12 +71,12 @@ abbrev pub RanSomehow : List Command → Bool → Option CircuitValue → World 
 RanSomehow commands unmet start old new = (origin : Option CircuitValue) × Ran commands unmet start old new origin
 
 -- the next command of a list is the next turn
-pub ran_next : (cmds : List Command) (i : ℕ) (c : Command) (stop : StepEnd) (u v b : Bool) (start : Option CircuitValue) (old mid new : World) → i < length cmds → c ≡ get_or cmds i c → RanSomehow (take i cmds) u start old mid → Ended c (i + 1) stop mid new → ((answer : Reply) → stop ≡ end_of answer → b ≡ is_unmet answer) → v ≡ (u || b) → mid.file_faults ≤ new.file_faults → mid.sink_faults ≤ new.sink_faults → RanSomehow (take (i + 1) cmds) v start old new
-ran_next cmds i c stop u v b start old mid new lt is ran ended which v-is files sink =
+pub ran_next : (cmds : List Command) (i : ℕ) (c : Command) (stop : StepEnd) (u v b : Bool) (start : Option CircuitValue) (old mid new : World) → i < length cmds → c ≡ get_or cmds i c → RanSomehow (take i cmds) u start old mid → Ended c (i + 1) stop mid new → ((answer : Reply) → stop ≡ end_of answer → b ≡ is_unmet answer) → v ≡ (u || b) → RanSomehow (take (i + 1) cmds) v start old new
+ran_next cmds i c stop u v b start old mid new lt is ran ended which v-is =
     let len : length (take i cmds) ≡ i = length-take-le i cmds (omega arith) in
     let at : Ended c (length (take i cmds) + 1) stop mid new = subst (λ (k : ℕ). Ended c (k + 1) stop mid new) (sym len) ended in
     let origin = latest at.source ran.0 in
-    let more = ran_more (take i cmds) c stop u b start old mid new ran.0 ran.1 at which files sink in
+    let more = ran_more (take i cmds) c stop u b start old mid new ran.0 ran.1 at which in
     let list : take i cmds ++ c ∷ [] ≡ take (i + 1) cmds = ap (λ (x : Command). take i cmds ++ x ∷ []) is ∙ sym (take_more cmds i c lt) in
     (origin, subst (λ (cs : List Command). Ran cs v start old new origin) list (subst (λ (x : Bool). Ran (take i cmds ++ c ∷ []) x start old new origin) (sym v-is) more))
 
@@ -104,8 +106,7 @@ ran_nothing old start = (
     text = [];
     runs = (refl, refl, refl);
     grows = grows_by_nothing old.written;
-    file_faults = omega arith;
-    sink_faults = omega arith;
+    quiet = record { file_faults = refl; last = refl; sink_faults = refl };
   },
 )
 

@@ -5,14 +5,14 @@ use Rattle.lnet_edge.specs.Circuits.{CircuitValue}
 use Rattle.lnet_gates.specs.declared.gate.Kind.{Kind}
 use Rattle.lnet_gates.specs.declared.signal.Signal.{Signal}
 use Rattle.lnet_model.specs.Networks.{NetworkValue}
-use Rattle.lnet_any.specs.Forms.{form_of}
 use Rattle.lnet_script.specs.declared.command.Command.{Command}
+use Rattle.lnet_replies.specs.declared.reply.Counts.{Counts}
 use Rattle.lnet_replies.specs.declared.reply.Reply.{Reply}
-use Rattle.lnet_session.specs.Made.{IsSound}
+use Rattle.lnet_build.specs.Sound.{IsSound}
 use Rattle.lnet_session.specs.Merging.{GivesWay}
 use Rattle.lnet_session.specs.States.{Held, State}
 use Rattle.lnet_session.specs.Effects.{AgreeOutputs, Effect, PutsInPlace}
-use Rattle.lnet_session.specs.Steps.{MakesCall, own_call}
+use Rattle.lnet_session.specs.Calls.{MakesCall, own_call}
 use Rattle.lnet_run.specs.Runs.{FollowsOrigin, latest}
 
 -- ---- the origin
@@ -24,23 +24,23 @@ follows-same : (h k : Option Held) (source origin : Option CircuitValue) → Fol
 follows-same h k source origin f none same = with-latest k source origin none (subst (λ (t : Option Held). FollowsOrigin t origin) (sym same) f)
 
 -- a network that is put in place follows its circuit
-follows-puts : (kind : Kind) (c : CircuitValue) (k : Kind) (inputs outputs gates : ℕ) (old new : State) → PutsInPlace kind c k inputs outputs gates old new → FollowsOrigin new.held (Some c)
-follows-puts kind c k inputs outputs gates old new puts =
-    subst (λ (h : Option Held). FollowsOrigin h (Some c)) (sym puts.held) (c, refl, subst (λ k. IsSound (form_of k) puts.network) (sym puts.made.kind_is) puts.made.sound, puts.made.values)
+follows-puts : (kind : Kind) (c : CircuitValue) (counts : Counts) (old new : State) → PutsInPlace kind c counts old new → FollowsOrigin new.held (Some c)
+follows-puts kind c counts old new puts =
+    subst (λ (h : Option Held). FollowsOrigin h (Some c)) (sym puts.held) (c, refl, puts.made.sound, puts.made.values)
 
 -- a sound network that computes what the one before it computed
 follows-agree :
-    (old : Option Held) (k : Held) (origin : Option CircuitValue) → FollowsOrigin old origin → AgreeOutputs old (Some k) → IsSound (form_of k.network.kind) k.network →
+    (old : Option Held) (k : Held) (origin : Option CircuitValue) → FollowsOrigin old origin → AgreeOutputs old (Some k) → IsSound k.network →
     FollowsOrigin (Some k) origin
 follows-agree None k origin f agree sound = absurd agree
 follows-agree (Some h) k origin f agree sound = (f.0, f.1, sound, λ a. agree a ∙ f.3 a)
 
 follows-converts :
-    (kind : Kind) (c : CircuitValue) (k : Kind) (inputs outputs gates : ℕ) (old new : State) (origin : Option CircuitValue) → FollowsOrigin old.held origin →
-    PutsInPlace kind c k inputs outputs gates old new → AgreeOutputs old.held new.held → FollowsOrigin new.held origin
-follows-converts kind c k inputs outputs gates old new origin f puts agree =
+    (kind : Kind) (c : CircuitValue) (counts : Counts) (old new : State) (origin : Option CircuitValue) → FollowsOrigin old.held origin →
+    PutsInPlace kind c counts old new → AgreeOutputs old.held new.held → FollowsOrigin new.held origin
+follows-converts kind c counts old new origin f puts agree =
     subst (λ (h : Option Held). FollowsOrigin h origin) (sym puts.held)
-    (follows-agree old.held _ origin f (subst (AgreeOutputs old.held) puts.held agree) (subst (λ k. IsSound (form_of k) puts.network) (sym puts.made.kind_is) puts.made.sound))
+    (follows-agree old.held _ origin f (subst (AgreeOutputs old.held) puts.held agree) puts.made.sound)
 
 follows-gives :
     (h : Held) (origin : Option CircuitValue) (n : ℕ) (s : Signal) (Q : NetworkValue) (new : Option Held) → FollowsOrigin (Some h) origin → GivesWay h.network n s Q →

@@ -1,7 +1,8 @@
 -- When a run ends with each status.
-use Rattle.std.proofs.Common.{◌≡◌, ℕ, zero, suc, ◌+◌, ◌≤◌, ◌⊎◌, Bool, true, false, List, [], ◌∷◌, length, Option, Some, None, Result, Ok, Err, refl, sym, ap, subst, ◌∙◌, inl, inr, arith}
-use Rattle.std.specs.Prelude.{◌||◌, slice_get}
-use Rattle.lnet_edge.specs.Outside.{Rose}
+use Rattle.std.proofs.Common.{◌≡◌, ℕ, ◌+◌, ◌⊎◌, Bool, true, false, List, [], ◌∷◌, length, Option, Some, None, Result, Ok, Err, refl, sym, ap, subst, ◌∙◌, inl, inr, arith}
+use Rattle.std.specs.Prelude.{◌||◌}
+use Rattle.std.proofs.lemmas.Option.{get_or_from_slice_get, slice_get_within}
+use Rattle.lnet_edge.specs.Outside.{Rose, one_more}
 use Rattle.lnet_edge.specs.Circuits.{CircuitValue}
 use Rattle.lnet_script.specs.declared.command.Command.{Command}
 use Rattle.lnet_session.specs.declared.stepping.StepEnd.TheVariants as ends
@@ -11,12 +12,13 @@ use Rattle.lnet_run.specs.declared.top.Refusal.TheVariants as refusal
 use Rattle.lnet_run.specs.declared.top.Ending.{Ending}
 use Rattle.lnet_run.specs.declared.top.Ending.TheVariants as ending
 use Rattle.lnet_script.specs.Scripts.{IsScript, commands_in}
-use Rattle.lnet_session.specs.Steps.{World, CallFailed, PutFailed}
+use Rattle.lnet_session.specs.Steps.{World, IsQuiet, CallFailed, PutFailed}
 use Rattle.lnet_run.specs.Runs.{Scene, Turn, Runs, Stopped, scene_of}
-use Rattle.lnet_run.specs.Ends.{script_of, IsRefused, IsAccepted, EndsAs, status_number, IsRefusedSomehow, IsOneOf, IsFaulty, MeetsNoCause, IsUnhindered, IsOrMemory}
+use Rattle.lnet_run.specs.Ends.{script_of, IsRefused, IsAccepted, EndsAs, status_number, IsRefusedSomehow, Untouched, IsFaulty, MeetsNoCause, IsUnhindered, IsOrMemory}
 use Rattle.lnet_script.specs.Pieces.{pieces_of}
 use Rattle.lnet_script.proofs.ScriptLaws.{bad_read, spelled_read, ok_is}
 use Rattle.lnet_run.proofs.Following.{call-some}
+use Rattle.lnet_run.proofs.Chain.{quiet_more}
 
 -- ---- the words and the script are accepted or refused, and not both
 
@@ -47,8 +49,11 @@ not_both words cs (refusal.Script line) a r =
 
 -- ---- counts
 
-rose_more : (a b c : ℕ) → a ≤ b → Rose b c → Rose a c
-rose_more a b c le rose = omega (arith, rose)
+rose_more : (a b c : ℕ) → b ≡ a → c ≡ one_more b → Rose a c
+rose_more a b c same more = omega (arith, same, more)
+
+quiet-untouched : (old new : World) → Untouched old new → new.sink_faults ≡ old.sink_faults → IsQuiet old new
+quiet-untouched old new same sink = record { file_faults = same.file_faults; last = same.last; sink_faults = sink }
 
 -- ---- where no command meets a cause
 
@@ -66,30 +71,19 @@ runs_met i (c ∷ cs) old new text u none r =
 
 -- ---- faults
 
-member : (cs : List Command) (i : ℕ) (c : Command) → slice_get cs i ≡ Some c → IsOneOf c cs
-member [] i c e = absurd cc
-member (d ∷ ds) zero c e = inl (sym (same_some d c e)) where
-  or_else : Command → Option Command → Command
-  or_else x None = x
-  or_else x (Some y) = y
-
-  same_some : (x y : Command) → Some x ≡ Some y → x ≡ y
-  same_some x y e = ap (or_else x) e
-member (d ∷ ds) (suc i) c e = inr (member ds i c e)
-
 faulty : (words : List (List ℕ)) (cs : List Command) (old new : World) (origin : Option CircuitValue) → IsAccepted words cs → Stopped cs ends.Fault None old new origin → IsFaulty words old new
 faulty words cs old new origin a s = by_step s.step where
   by_step : (CallFailed s.command s.mid new ⊎ PutFailed s.command (s.done + 1) s.mid new) → IsFaulty words old new
   by_step (inl f) = inr (record {
-    rose = rose_more old.file_faults s.mid.file_faults new.file_faults s.ran.file_faults f.rose;
+    rose = rose_more old.file_faults s.mid.file_faults new.file_faults s.ran.quiet.file_faults f.file_faults;
     commands = cs;
     accepted = a;
     command = s.command;
-    of_script = member cs s.done s.command s.next;
+    of_script = (s.done, slice_get_within cs s.done s.command s.next, get_or_from_slice_get cs s.done s.command s.command s.next);
     makes = call-some s.command s.mid.state f.allowed;
     last = f.last;
   })
-  by_step (inr f) = inl (rose_more old.sink_faults s.mid.sink_faults new.sink_faults s.ran.sink_faults f.rose)
+  by_step (inr f) = inl (rose_more old.sink_faults s.mid.sink_faults new.sink_faults s.ran.quiet.sink_faults f.sink_faults)
 
 -- ---- the statuses of the ends
 
@@ -117,7 +111,7 @@ end_faulty words (ending.Ran run.SomeUnmet) old new origin e s = absurd cc
 end_faulty words (ending.Ran run.Fault) old new origin e s = faulty words e.commands old new origin e.accepted e.runs
 end_faulty words (ending.Ran run.NoMemory) old new origin e s = absurd cc
 end_faulty words (ending.Refused r) old new origin e s = absurd cc
-end_faulty words (ending.NotPut r) old new origin e s = inl e.0.rose
+end_faulty words (ending.NotPut r) old new origin e s = inl (rose_more old.sink_faults old.sink_faults new.sink_faults refl e.0.sink_faults)
 end_faulty words ending.NoMemory old new origin e s = absurd cc
 
 free_end : (words : List (List ℕ)) (end : Ending) (old new : World) (origin : Option CircuitValue) → EndsAs words end old new origin → IsUnhindered words old new → IsOrMemory 0 (status_number end)
@@ -129,8 +123,17 @@ free_end words (ending.Ran run.SomeUnmet) old new origin e u =
 free_end words (ending.Ran run.Fault) old new origin e u = elim (faulty words e.commands old new origin e.accepted e.runs) [ inl f ↦ absurd (u.no_sink_fault f) | inr f ↦ absurd (u.no_file_fault f.rose) ]
 free_end words (ending.Ran run.NoMemory) old new origin e u = inr refl
 free_end words (ending.Refused r) old new origin e u = absurd (not_both words u.commands r u.accepted e.0.refused)
-free_end words (ending.NotPut r) old new origin e u = absurd (u.no_sink_fault e.0.rose)
+free_end words (ending.NotPut r) old new origin e u = absurd (u.no_sink_fault (rose_more old.sink_faults old.sink_faults new.sink_faults refl e.0.sink_faults))
 free_end words ending.NoMemory old new origin e u = inr refl
+
+pub end_quiet : (words : List (List ℕ)) (end : Ending) (old new : World) (origin : Option CircuitValue) → EndsAs words end old new origin → (status_number end ≡ 3 → ⊥) → IsQuiet old new
+end_quiet words (ending.Ran run.AllMet) old new origin e other = e.runs.quiet
+end_quiet words (ending.Ran run.SomeUnmet) old new origin e other = e.runs.quiet
+end_quiet words (ending.Ran run.Fault) old new origin e other = absurd (other refl)
+end_quiet words (ending.Ran run.NoMemory) old new origin e other = quiet_more old e.runs.mid new e.runs.ran.quiet e.runs.step.quiet
+end_quiet words (ending.Refused r) old new origin e other = quiet-untouched old new e.0.untouched e.0.sink_faults
+end_quiet words (ending.NotPut r) old new origin e other = absurd (other refl)
+end_quiet words ending.NoMemory old new origin e other = quiet-untouched old new e.0.untouched e.0.sink_faults
 
 -- ---- the same of a status
 

@@ -1,7 +1,7 @@
 -- How a whole run ends, and when it ends with each status.
-use Rattle.std.specs.Prelude.{◌≡◌, ◌⊎◌, ℕ, ◌≤◌, Bool, false, ◌==◌, List, [], ◌∷◌, ◌++◌, length, Option, Some, None, IsSome, codes, if◌then◌else◌}
+use Rattle.std.specs.Prelude.{◌≡◌, ◌⊎◌, ℕ, ◌≤◌, Bool, false, ◌==◌, List, [], ◌∷◌, ◌++◌, length, Option, Some, None, IsSome, Contains, codes, if◌then◌else◌}
 use Rattle.std.specs.Fmt.{decimal}
-use Rattle.lnet_edge.specs.Outside.{Rose, Contents}
+use Rattle.lnet_edge.specs.Outside.{Rose, Contents, one_more}
 use Rattle.lnet_edge.specs.Circuits.{CircuitValue}
 use Rattle.lnet_replies.specs.declared.reply.Reply.{Reply}
 use Rattle.lnet_replies.specs.Texts.{is_unmet}
@@ -16,7 +16,8 @@ use Rattle.lnet_run.specs.declared.top.Ending.{Ending}
 use Rattle.lnet_run.specs.declared.top.Ending.TheVariants as ending
 use Rattle.lnet_session.specs.States.{State}
 use Rattle.lnet_session.specs.Effects.{Effect}
-use Rattle.lnet_session.specs.Steps.{World, Grows, GrowsByPart, own_call}
+use Rattle.lnet_session.specs.Calls.{own_call}
+use Rattle.lnet_session.specs.Steps.{World, Grows, GrowsByPart}
 use Rattle.lnet_run.specs.Runs.{RunsTo, FollowsOrigin}
 
 abbrev pub begins_with_dash : List ℕ → Bool
@@ -45,10 +46,12 @@ pub record IsAccepted (words : List (List ℕ)) (commands : List Command) : Type
   pub short : length bytes ≤ script_limit
   pub script : IsScript bytes commands
 
--- no command ran
+-- no command ran, and no call of the files failed
 pub record Untouched (old new : World) : Type 0 where
   pub state : new.state ≡ old.state
   pub contents : new.contents ≡ old.contents
+  pub file_faults : new.file_faults ≡ old.file_faults
+  pub last : new.last ≡ old.last
 
 -- the commands of the script ran, and ended so
 pub record RanScript (words : List (List ℕ)) (end : RunEnd) (old new : World) (origin : Option CircuitValue) : Type 0 where
@@ -61,18 +64,20 @@ pub record RefusedWith (words : List (List ℕ)) (refusal : Refusal) (old new : 
   pub refused : IsRefused words refusal
   pub untouched : Untouched old new
   pub text : Grows old.written (refusal_text refusal) new.written
+  pub sink_faults : new.sink_faults ≡ old.sink_faults
 
 -- a refusal whose line could not be put
 pub record RefusedInPart (words : List (List ℕ)) (refusal : Refusal) (old new : World) : Type 0 where
   pub refused : IsRefused words refusal
   pub untouched : Untouched old new
   pub text : GrowsByPart old.written (refusal_text refusal) new.written
-  pub rose : Rose old.sink_faults new.sink_faults
+  pub sink_faults : new.sink_faults ≡ one_more old.sink_faults
 
 -- there was no memory before the first command: nothing ran, and nothing was put
 pub record NothingRan (old new : World) : Type 0 where
   pub untouched : Untouched old new
   pub written : new.written ≡ old.written
+  pub sink_faults : new.sink_faults ≡ old.sink_faults
 
 -- The whole run by its ending. The origin is the circuit last read or generated.
 abbrev pub EndsAs : List (List ℕ) → Ending → World → World → Option CircuitValue → Type 0
@@ -90,12 +95,12 @@ status_number (ending.Refused r) = 2
 status_number (ending.NotPut r) = 3
 status_number ending.NoMemory = 4
 
--- what a refusal puts
+-- what a refusal puts, and whether that fails
 abbrev pub RefusesAs : Refusal → Ending → Option (List ℕ) → Option (List ℕ) → ℕ → ℕ → Type 0
 RefusesAs r (ending.Ran end) old new before now = ⊥
-RefusesAs r (ending.Refused s) old new before now = (s ≡ r) × Grows old (refusal_text r) new
-RefusesAs r (ending.NotPut s) old new before now = (s ≡ r) × GrowsByPart old (refusal_text r) new × Rose before now
-RefusesAs r ending.NoMemory old new before now = new ≡ old
+RefusesAs r (ending.Refused s) old new before now = (s ≡ r) × Grows old (refusal_text r) new × (now ≡ before)
+RefusesAs r (ending.NotPut s) old new before now = (s ≡ r) × GrowsByPart old (refusal_text r) new × (now ≡ one_more before)
+RefusesAs r ending.NoMemory old new before now = (new ≡ old) × (now ≡ before)
 
 -- ---- when a status comes
 
@@ -103,18 +108,13 @@ RefusesAs r ending.NoMemory old new before now = new ≡ old
 abbrev pub IsRefusedSomehow : List (List ℕ) → Type 0
 IsRefusedSomehow words = (r : Refusal) × IsRefused words r
 
--- a member of a list of commands
-abbrev pub IsOneOf : Command → List Command → Type 0
-IsOneOf c [] = ⊥
-IsOneOf c (d ∷ ds) = (c ≡ d) ⊎ IsOneOf c ds
-
 -- the files failed, and their last failed call is the own fetch or store of a command of the script
 pub record FilesFailed (words : List (List ℕ)) (old new : World) : Type 0 where
   pub rose : Rose old.file_faults new.file_faults
   pub commands : List Command
   pub accepted : IsAccepted words commands
   pub command : Command
-  pub of_script : IsOneOf command commands
+  pub of_script : Contains commands command
   pub makes : IsSome (own_call command)
   pub last : new.last ≡ own_call command
 

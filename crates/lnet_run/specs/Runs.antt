@@ -1,9 +1,8 @@
 -- Whole runs: one command after another, with the circuit that was last read or generated.
-use Rattle.std.specs.Prelude.{◌≡◌, ℕ, ◌+◌, ◌≤◌, Bool, true, false, ◌||◌, List, [], ◌∷◌, ◌++◌, length, take, Option, Some, None, slice_get, ◌⊎◌}
+use Rattle.std.specs.Prelude.{◌≡◌, ℕ, ◌+◌, Bool, true, false, ◌||◌, List, [], ◌∷◌, ◌++◌, length, take, Option, Some, None, slice_get, ◌⊎◌}
 use Rattle.lnet_edge.specs.Outside.{Contents}
 use Rattle.lnet_edge.specs.Circuits.{CircuitValue}
 use Rattle.lnet_edge.specs.Values.{circuit_outputs}
-use Rattle.lnet_any.specs.Forms.{form_of}
 use Rattle.lnet_model.specs.Values.{network_outputs}
 use Rattle.lnet_replies.specs.declared.reply.Reply.{Reply}
 use Rattle.lnet_replies.specs.Texts.{is_unmet, reply_text}
@@ -12,10 +11,10 @@ use Rattle.lnet_session.specs.declared.stepping.StepEnd.{StepEnd}
 use Rattle.lnet_session.specs.declared.stepping.StepEnd.TheVariants as ends
 use Rattle.lnet_run.specs.declared.running.RunEnd.{RunEnd}
 use Rattle.lnet_run.specs.declared.running.RunEnd.TheVariants as run
-use Rattle.lnet_session.specs.Made.{IsSound}
+use Rattle.lnet_build.specs.Sound.{IsSound}
 use Rattle.lnet_session.specs.States.{Held, State}
 use Rattle.lnet_session.specs.Effects.{Effect}
-use Rattle.lnet_session.specs.Steps.{World, Steps, Grows}
+use Rattle.lnet_session.specs.Steps.{World, IsQuiet, Steps, Grows}
 
 -- what a run carries from command to command; the origin is the circuit that was last read or generated, none before the first
 pub record Scene : Type 0 where
@@ -53,13 +52,12 @@ SplitsAt index front rest old new text =
 abbrev pub scene_of : World → Option CircuitValue → Scene
 scene_of w origin = record { state = w.state; contents = w.contents; origin = origin }
 
--- these commands ran to their ends, and the sink grew by their texts
+-- these commands ran to their ends, the sink grew by their texts, and no call failed
 pub record Ran (commands : List Command) (unmet : Bool) (start : Option CircuitValue) (old new : World) (origin : Option CircuitValue) : Type 0 where
   pub text : List ℕ
   pub runs : Runs 1 commands (scene_of old start) (scene_of new origin) text unmet
   pub grows : Grows old.written text new.written
-  pub file_faults : old.file_faults ≤ new.file_faults
-  pub sink_faults : old.sink_faults ≤ new.sink_faults
+  pub quiet : IsQuiet old new
 
 -- The origin after a command that stopped: that of its whole effect where it had one, else that before it.
 abbrev pub AfterStop : Command → World → World → Option CircuitValue → Option CircuitValue → Type 0
@@ -89,4 +87,4 @@ RunsTo commands run.NoMemory start old new origin = Stopped commands ends.NoMemo
 -- the network, where one is in place, is sound, and each output computes what it computes in the origin
 abbrev pub FollowsOrigin : Option Held → Option CircuitValue → Type 0
 FollowsOrigin None origin = Unit {0}
-FollowsOrigin (Some h) origin = (c : CircuitValue) × (origin ≡ Some c) × IsSound (form_of h.network.kind) h.network × ((a : ℕ → Bool) → network_outputs h.network a ≡ circuit_outputs c a)
+FollowsOrigin (Some h) origin = (c : CircuitValue) × (origin ≡ Some c) × IsSound h.network × ((a : ℕ → Bool) → network_outputs h.network a ≡ circuit_outputs c a)

@@ -3,8 +3,9 @@
 ghost use Rattle.std.specs.Prelude.{◌≤◌, ◌<◌, ◌+◌, ◌-◌, ◌^◌, All, Option, length};
 ghost use Rattle.lnet_edge.specs.Circuits.{CircuitValue};
 ghost use Rattle.lnet_session.specs.Sessions.{IsGoodBy, state_by};
-ghost use Rattle.lnet_session.specs.Steps.{IsCommand, World};
+ghost use Rattle.lnet_session.specs.Steps.{IsCommand, World, world_of};
 ghost use Rattle.lnet_run.specs.Runs.{RunsTo};
+ghost use Rattle.lnet_script.specs.Scripts.{script_limit};
 
 use lnet_edge::{Files, Sink};
 use lnet_script::Command;
@@ -33,14 +34,14 @@ pub fn run_commands<F: Files, S: Sink>(
     files: &mut F,
     out: &mut S,
 ) -> RunEnd
-    requires few { length commands.now ≤ 1048576 }
+    requires few { length commands.now ≤ script_limit }
     requires commands { All IsCommand commands.now }
     requires next { (state_by ⟦<dyn View as View>⟧ session.old).roll.next + length commands.now < 2 ^ 32 - 1 }
     requires good { IsGoodBy ⟦<dyn View as View>⟧ session.old }
     ensures good { IsGoodBy ⟦<dyn View as View>⟧ session.new }
     ensures runs { (start : Option CircuitValue) → (origin : Option CircuitValue) × RunsTo commands.now result start
-        (record { state = state_by ⟦<dyn View as View>⟧ session.old; contents = F.contents files.old; written = S.written out.old; file_faults = F.faults files.old; last = F.last files.old; sink_faults = S.faults out.old })
-        (record { state = state_by ⟦<dyn View as View>⟧ session.new; contents = F.contents files.new; written = S.written out.new; file_faults = F.faults files.new; last = F.last files.new; sink_faults = S.faults out.new }) origin }
+        (world_of F.Files S.Sink (state_by ⟦<dyn View as View>⟧ session.old) files.old out.old)
+        (world_of F.Files S.Sink (state_by ⟦<dyn View as View>⟧ session.new) files.new out.new) origin }
 {
     let mut unmet = false;
     for (index, command) in commands.iter().enumerate() {

@@ -1,10 +1,9 @@
 //! The top call: the words of the command line, the script, and its run.
 
 ghost use Rattle.std.specs.Prelude.{◌≡◌, ◌≤◌, ◌⊎◌, List, ℕ, Option, Some, None, map, string_bytes, IfOk, MatchOption};
-ghost use Rattle.lnet_edge.specs.Outside.{Rose};
 ghost use Rattle.lnet_edge.specs.Circuits.{CircuitValue};
 ghost use Rattle.lnet_session.specs.Sessions.{AreDetachedBy, IsGoodBy, first_state_by, state_by};
-ghost use Rattle.lnet_session.specs.Steps.{World, Grows, GrowsByPart};
+ghost use Rattle.lnet_session.specs.Steps.{Grows, GrowsByPart, World, world_of};
 ghost use Rattle.lnet_run.specs.Ends.{EndsAs, IsOutcome, IsRefusedSomehow, IsFaulty, IsUnhindered, IsOrMemory, script_of, refusal_text, status_number, RefusesAs};
 
 use crate::running::{RunEnd, run_commands};
@@ -97,8 +96,8 @@ fn run_words<F: Files, S: Sink>(
     requires good { IsGoodBy ⟦<dyn View as View>⟧ session.old }
     ensures good { IsGoodBy ⟦<dyn View as View>⟧ session.new }
     ensures ends { (origin : Option CircuitValue) × EndsAs (map string_bytes words.now) result
-        (record { state = state_by ⟦<dyn View as View>⟧ session.old; contents = F.contents files.old; written = S.written out.old; file_faults = F.faults files.old; last = F.last files.old; sink_faults = S.faults out.old })
-        (record { state = state_by ⟦<dyn View as View>⟧ session.new; contents = F.contents files.new; written = S.written out.new; file_faults = F.faults files.new; last = F.last files.new; sink_faults = S.faults out.new }) origin }
+        (world_of F.Files S.Sink (state_by ⟦<dyn View as View>⟧ session.old) files.old out.old)
+        (world_of F.Files S.Sink (state_by ⟦<dyn View as View>⟧ session.new) files.new out.new) origin }
 {
     let Some(script) = script_word(words) else {
         return refuse(alloc, Refusal::Words, out);
@@ -127,8 +126,8 @@ fn status_of(ending: Ending) -> u8
 ///
 /// `words[0]` is the program's name; there must be one word more, the script, which may not begin with `-`. The order
 /// is: words, grammar, then the commands in order. A refusal puts the one line `error words` or `error script LINE`,
-/// and no command runs. A failed fetch, store or put ends the run, as does want of memory. Time is linear in the script
-/// and in the files that it names.
+/// and no command runs. A failed fetch, store or put ends the run, with status 3, as does want of memory, with status 4.
+/// Where the status is another than 3 no call failed. Time is linear in the script and in the files that it names.
 pub fn run<F: Files, S: Sink>(
     alloc: Global,
     words: &[String],
@@ -140,21 +139,22 @@ pub fn run<F: Files, S: Sink>(
     // How the run went, what it put, and that each output of the network that it leaves computes the same function as
     // in the circuit last read or generated.
     ensures outcome { IsOutcome (map string_bytes words.now) result.status
-        (record { state = first_state_by ⟦<dyn View as View>⟧ kit; contents = F.contents files.old; written = S.written out.old; file_faults = F.faults files.old; last = F.last files.old; sink_faults = S.faults out.old })
-        (record { state = state_by ⟦<dyn View as View>⟧ result.session; contents = F.contents files.new; written = S.written out.new; file_faults = F.faults files.new; last = F.last files.new; sink_faults = S.faults out.new }) }
+        (world_of F.Files S.Sink (first_state_by ⟦<dyn View as View>⟧ kit) files.old out.old)
+        (world_of F.Files S.Sink (state_by ⟦<dyn View as View>⟧ result.session) files.new out.new) }
 
     // The network that it leaves has no cycle, and each live view answers as computed from it.
     ensures good { IsGoodBy ⟦<dyn View as View>⟧ result.session }
 
-    // When a refusal, a fault and success come.
+    // When a refusal, a fault and success come. A run that ends otherwise than by a fault met with none.
     ensures refused { result.status ≡ 2 → IsRefusedSomehow (map string_bytes words.now) }
     ensures refuses { IsRefusedSomehow (map string_bytes words.now) → (result.status ≡ 2) ⊎ IsOrMemory 3 result.status }
     ensures fault { result.status ≡ 3 → IsFaulty (map string_bytes words.now)
-        (record { state = first_state_by ⟦<dyn View as View>⟧ kit; contents = F.contents files.old; written = S.written out.old; file_faults = F.faults files.old; last = F.last files.old; sink_faults = S.faults out.old })
-        (record { state = state_by ⟦<dyn View as View>⟧ result.session; contents = F.contents files.new; written = S.written out.new; file_faults = F.faults files.new; last = F.last files.new; sink_faults = S.faults out.new }) }
+        (world_of F.Files S.Sink (first_state_by ⟦<dyn View as View>⟧ kit) files.old out.old)
+        (world_of F.Files S.Sink (state_by ⟦<dyn View as View>⟧ result.session) files.new out.new) }
+    ensures quiet { (result.status ≡ 3 → ⊥) → (F.faults files.new ≡ F.faults files.old) × (F.last files.new ≡ F.last files.old) × (S.faults out.new ≡ S.faults out.old) }
     ensures complete { IsUnhindered (map string_bytes words.now)
-        (record { state = first_state_by ⟦<dyn View as View>⟧ kit; contents = F.contents files.old; written = S.written out.old; file_faults = F.faults files.old; last = F.last files.old; sink_faults = S.faults out.old })
-        (record { state = state_by ⟦<dyn View as View>⟧ result.session; contents = F.contents files.new; written = S.written out.new; file_faults = F.faults files.new; last = F.last files.new; sink_faults = S.faults out.new }) → IsOrMemory 0 result.status }
+        (world_of F.Files S.Sink (first_state_by ⟦<dyn View as View>⟧ kit) files.old out.old)
+        (world_of F.Files S.Sink (state_by ⟦<dyn View as View>⟧ result.session) files.new out.new) → IsOrMemory 0 result.status }
 {
     let mut session = Session::new(alloc, kit);
     let ending = run_words(alloc, words, &mut session, files, out);

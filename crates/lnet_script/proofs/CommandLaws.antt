@@ -8,11 +8,13 @@ use Rattle.lnet_script.specs.declared.command.Command.{Command}
 use Rattle.lnet_script.specs.declared.command.Command.TheVariants.{Read, Write, Gen, View, Drop, Ask, Print, Stats, Simulate, Merge, Convert}
 use Rattle.lnet_script.specs.declared.keywords.Verb.{Verb}
 use Rattle.lnet_script.specs.declared.keywords.Verb.TheVariants as verbs
-use Rattle.lnet_script.specs.Spelling.{signal_word, kind_word, read_word, write_word, Spells}
+use Rattle.lnet_gates.specs.KindWords.{kind_word}
+use Rattle.lnet_script.specs.Spelling.{signal_word, read_word, write_word, Spells}
 use Rattle.lnet_script.specs.Given.{◌>>=◌}
 use Rattle.lnet_script.specs.Keywords.{verb_word, verb_of, kind_of, read_format_of, write_format_of, view_of, query_of, long_number_of, number_of, signal_of, count_of, name_of}
 use Rattle.lnet_script.specs.Reading.{no_word, one_word, two_words, three_words, five_words, read_of, write_of, generate_of, attach_of, drop_of, ask_of, simulate_of, merge_of, convert_of, behind, command_of}
 use Rattle.lnet_script.proofs.Digits.{signal_is, signal_again, number_is, number_again, count_is, count_again, long_number_is, long_number_again}
+use Rattle.lnet_gates.specs.declared.gate.Kind.{Kind}
 use Rattle.lnet_script.proofs.KeywordLaws.{verb_is, kind_is, kind_again, read_format_is, read_format_again, write_format_is, write_format_again, word_is, name_of_is, name_again}
 
 bind_some : {A B : Type 0} (r : Option A) (f : A → Option B) (y : B) → (r >>= f) ≡ Some y → (x : A) × (r ≡ Some x) × (f x ≡ Some y)
@@ -95,21 +97,24 @@ write_is ws c e =
     subst (λ (d : Command). Spells (codes "write" ∷ ws) d) same
     (name.1, two_as (codes "write") ws w.0 (write_word f.0) n.0 (two_left ws w.0 w.1) format name.0)
 
+abbrev generated : Kind → ℕ → ℕ → ℕ → ℕ → Command
+generated kind inputs gates outputs start = Gen kind (record { inputs = inputs; gates = gates; outputs = outputs; start = start })
+
 generate_is : (ws : List (List ℕ)) (c : Command) → generate_of ws ≡ Some c → Spells (codes "gen" ∷ ws) c
 unfolding generate_of
 generate_is ws c e =
-    let w = bind_some (five_words ws) (λ w. kind_of w.0 >>= λ kind. count_of 1 4096 w.1 >>= λ inputs. count_of 0 262144 w.2 >>= λ gates. count_of 1 4096 w.3 >>= λ outputs. long_number_of w.4 >>= λ start. Some (Gen kind inputs gates outputs start)) c e in
-    let k = bind_some (kind_of w.0.0) (λ kind. count_of 1 4096 w.0.1 >>= λ inputs. count_of 0 262144 w.0.2 >>= λ gates. count_of 1 4096 w.0.3 >>= λ outputs. long_number_of w.0.4 >>= λ start. Some (Gen kind inputs gates outputs start)) c w.2 in
-    let i = bind_some (count_of 1 4096 w.0.1) (λ inputs. count_of 0 262144 w.0.2 >>= λ gates. count_of 1 4096 w.0.3 >>= λ outputs. long_number_of w.0.4 >>= λ start. Some (Gen k.0 inputs gates outputs start)) c k.2 in
-    let g = bind_some (count_of 0 262144 w.0.2) (λ gates. count_of 1 4096 w.0.3 >>= λ outputs. long_number_of w.0.4 >>= λ start. Some (Gen k.0 i.0 gates outputs start)) c i.2 in
-    let o = bind_some (count_of 1 4096 w.0.3) (λ outputs. long_number_of w.0.4 >>= λ start. Some (Gen k.0 i.0 g.0 outputs start)) c g.2 in
-    let s = bind_some (long_number_of w.0.4) (λ start. Some (Gen k.0 i.0 g.0 o.0 start)) c o.2 in
+    let w = bind_some (five_words ws) (λ w. kind_of w.0 >>= λ kind. count_of 1 4096 w.1 >>= λ inputs. count_of 0 262144 w.2 >>= λ gates. count_of 1 4096 w.3 >>= λ outputs. long_number_of w.4 >>= λ start. Some (generated kind inputs gates outputs start)) c e in
+    let k = bind_some (kind_of w.0.0) (λ kind. count_of 1 4096 w.0.1 >>= λ inputs. count_of 0 262144 w.0.2 >>= λ gates. count_of 1 4096 w.0.3 >>= λ outputs. long_number_of w.0.4 >>= λ start. Some (generated kind inputs gates outputs start)) c w.2 in
+    let i = bind_some (count_of 1 4096 w.0.1) (λ inputs. count_of 0 262144 w.0.2 >>= λ gates. count_of 1 4096 w.0.3 >>= λ outputs. long_number_of w.0.4 >>= λ start. Some (generated k.0 inputs gates outputs start)) c k.2 in
+    let g = bind_some (count_of 0 262144 w.0.2) (λ gates. count_of 1 4096 w.0.3 >>= λ outputs. long_number_of w.0.4 >>= λ start. Some (generated k.0 i.0 gates outputs start)) c i.2 in
+    let o = bind_some (count_of 1 4096 w.0.3) (λ outputs. long_number_of w.0.4 >>= λ start. Some (generated k.0 i.0 g.0 outputs start)) c g.2 in
+    let s = bind_some (long_number_of w.0.4) (λ start. Some (generated k.0 i.0 g.0 o.0 start)) c o.2 in
     let kind = kind_is w.0.0 k.0 k.1 in
     let inputs = count_is 1 4096 w.0.1 i.0 i.1 in
     let gates = count_is 0 262144 w.0.2 g.0 g.1 in
     let outputs = count_is 1 4096 w.0.3 o.0 o.1 in
     let start = long_number_is w.0.4 s.0 s.1 in
-    let same : Gen k.0 i.0 g.0 o.0 s.0 ≡ c = some_is (Gen k.0 i.0 g.0 o.0 s.0) c s.2 in
+    let same : generated k.0 i.0 g.0 o.0 s.0 ≡ c = some_is (generated k.0 i.0 g.0 o.0 s.0) c s.2 in
     subst (λ (d : Command). Spells (codes "gen" ∷ ws) d) same
     (inputs.1, gates.1, outputs.1, start.1, five_as (codes "gen") ws w.0 (kind_word k.0) (decimal i.0) (decimal g.0) (decimal o.0) (decimal s.0) (five_left ws w.0 w.1) kind inputs.0 gates.0 outputs.0 start.0)
 
@@ -206,7 +211,7 @@ pub command_again : (words : List (List ℕ)) (c : Command) → Spells words c �
 unfolding command_of read_of write_of generate_of attach_of drop_of ask_of simulate_of merge_of convert_of
 command_again words (Read format name kind) is = rw is.1 (rw (read_format_again format, kind_again kind, name_again name is.0) refl)
 command_again words (Write format name) is = rw is.1 (rw (write_format_again format, name_again name is.0) refl)
-command_again words (Gen kind inputs gates outputs start) is = rw is.4 (rw (kind_again kind, count_again 1 4096 inputs is.0 (omega arith), count_again 0 262144 gates is.1 (omega arith), count_again 1 4096 outputs is.2 (omega arith), long_number_again start is.3) refl)
+command_again words (Gen kind g) is = rw is.4 (rw (kind_again kind, count_again 1 4096 g.inputs is.0 (omega arith), count_again 0 262144 g.gates is.1 (omega arith), count_again 1 4096 g.outputs is.2 (omega arith), long_number_again g.start is.3) refl)
 command_again words (View views.Depth) is = rw is refl
 command_again words (View views.Fanout) is = absurd is
 command_again words (View (views.Cuts rule)) is = absurd is

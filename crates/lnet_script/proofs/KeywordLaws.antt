@@ -12,7 +12,8 @@ use Rattle.lnet_script.specs.declared.command.ReadFormat.{ReadFormat}
 use Rattle.lnet_script.specs.declared.command.ReadFormat.TheVariants as reads
 use Rattle.lnet_script.specs.declared.command.WriteFormat.{WriteFormat}
 use Rattle.lnet_script.specs.declared.command.WriteFormat.TheVariants as writes
-use Rattle.lnet_script.specs.Spelling.{kind_word, read_word, write_word}
+use Rattle.lnet_gates.specs.KindWords.{kind_word}
+use Rattle.lnet_script.specs.Spelling.{read_word, write_word}
 use Rattle.lnet_script.specs.Pieces.{is_word}
 use Rattle.lnet_script.specs.Keywords.{verb_word, verb_of, kind_of, read_format_of, write_format_of, if_word, name_of}
 
@@ -29,19 +30,6 @@ found_passes p (x ∷ xs) y e =
 
 pub verb_is : (word : List ℕ) (v : Verb) → verb_of word ≡ Some v → word ≡ verb_word v
 verb_is word v e = sym ((bytes_eq-Decides (verb_word v) word).0 (found_passes (λ v. bytes_eq (verb_word v) word) (verbs.Read ∷ verbs.Write ∷ verbs.Gen ∷ verbs.View ∷ verbs.Drop ∷ verbs.Ask ∷ verbs.Print ∷ verbs.Stats ∷ verbs.Simulate ∷ verbs.Merge ∷ verbs.Convert ∷ []) v e))
-
-pub verb_again : (v : Verb) → verb_of (verb_word v) ≡ Some v
-verb_again verbs.Read = refl
-verb_again verbs.Write = refl
-verb_again verbs.Gen = refl
-verb_again verbs.View = refl
-verb_again verbs.Drop = refl
-verb_again verbs.Ask = refl
-verb_again verbs.Print = refl
-verb_again verbs.Stats = refl
-verb_again verbs.Simulate = refl
-verb_again verbs.Merge = refl
-verb_again verbs.Convert = refl
 
 pub kind_is : (word : List ℕ) (k : Kind) → kind_of word ≡ Some k → word ≡ kind_word k
 kind_is word k e = sym ((bytes_eq-Decides (kind_word k) word).0 (found_passes (λ k. bytes_eq (kind_word k) word) (Aig ∷ Xag ∷ Mig ∷ Klut ∷ []) k e))

@@ -1,5 +1,5 @@
 -- Scripts as the definitions and as the function of their commands.
-use Rattle.std.proofs.Common.{◌≡◌, ℕ, ◌<◌, ◌≤◌, true, false, List, [], ◌∷◌, ◌++◌, length, leb, Option, Some, None, Result, Ok, Err, refl, sym, ap, subst, ◌∙◌, inr, arith}
+use Rattle.std.proofs.Common.{◌≡◌, ℕ, ◌≤◌, true, List, [], ◌∷◌, ◌++◌, length, leb, Option, Some, None, Result, Ok, Err, refl, sym, ap, subst, ◌∙◌, inr, arith}
 use Rattle.std.specs.Prelude.{IfOk, IfErr}
 use Rattle.std.specs.Global.{Vec}
 use Rattle.std.proofs.lemmas.Bool.Decides.{nat_tests}
@@ -79,13 +79,6 @@ bad_read ps line bad = ap commands_in bad.is ∙ bad_after bad.front bad.command
 
 pub within : (bytes : List ℕ) → length bytes ≤ script_limit → commands_of bytes ≡ commands_in (pieces_of bytes)
 within bytes short = let t : leb (length bytes) script_limit ≡ true = grind (arith, nat_tests) in rw t refl
-
-pub beyond : (bytes : List ℕ) → script_limit < length bytes → commands_of bytes ≡ Err 0
-beyond bytes long = let t : leb (length bytes) script_limit ≡ false = grind (arith, nat_tests) in rw t refl
-
-pub fails_within : (bytes : List ℕ) (e : ScriptError) → length bytes ≤ script_limit → FailsScript e (commands_in (pieces_of bytes)) → FailsScript e (commands_of bytes)
-fails_within bytes errors.NoMemory short h = tt
-fails_within bytes (errors.BadLine line) short h = within bytes short ∙ h
 
 pub refuses_within : (bytes : List ℕ) (e : ScriptError) → length bytes ≤ script_limit → FailsScript e (commands_in (pieces_of bytes)) → Refuses bytes e
 refuses_within bytes errors.NoMemory short h = tt

@@ -15,7 +15,8 @@ use Rattle.lnet_script.specs.declared.command.WriteFormat.{WriteFormat}
 use Rattle.lnet_script.specs.declared.command.WriteFormat.TheVariants as writes
 use Rattle.lnet_script.specs.declared.keywords.Verb.{Verb}
 use Rattle.lnet_script.specs.declared.keywords.Verb.TheVariants as verbs
-use Rattle.lnet_script.specs.Spelling.{kind_word, read_word, write_word}
+use Rattle.lnet_gates.specs.KindWords.{kind_word}
+use Rattle.lnet_script.specs.Spelling.{read_word, write_word}
 use Rattle.lnet_script.specs.Pieces.{is_word}
 
 -- the first word of a command

@@ -67,7 +67,7 @@ generate_of words = do
   gates ← count_of 0 262144 w.2
   outputs ← count_of 1 4096 w.3
   start ← long_number_of w.4
-  Some (Gen kind inputs gates outputs start)
+  Some (Gen kind (record { inputs = inputs; gates = gates; outputs = outputs; start = start }))
 
 unfoldable pub attach_of : List (List ℕ) → Option Command
 attach_of words = do

@@ -3,7 +3,7 @@ use Rattle.std.specs.Prelude.{◌≡◌, ℕ, ◌<◌, ◌≤◌, ◌^◌, List,
 use Rattle.std.specs.Fmt.{decimal}
 use Rattle.lnet_gates.specs.declared.signal.Signal.{Signal}
 use Rattle.lnet_gates.specs.declared.gate.Kind.{Kind}
-use Rattle.lnet_gates.specs.declared.gate.Kind.TheVariants.{Aig, Xag, Mig, Klut}
+use Rattle.lnet_gates.specs.KindWords.{kind_word}
 use Rattle.lnet_model.specs.declared.view_spec.ViewSpec.TheVariants as views
 use Rattle.lnet_script.specs.declared.command.Command.{Command}
 use Rattle.lnet_script.specs.declared.command.Command.TheVariants.{Read, Write, Gen, View, Drop, Ask, Print, Stats, Simulate, Merge, Convert}
@@ -13,13 +13,6 @@ use Rattle.lnet_script.specs.declared.command.ReadFormat.TheVariants as reads
 use Rattle.lnet_script.specs.declared.command.WriteFormat.{WriteFormat}
 use Rattle.lnet_script.specs.declared.command.WriteFormat.TheVariants as writes
 use Rattle.lnet_script.specs.Pieces.{is_word}
-
--- the word of a kind of networks
-abbrev pub kind_word : Kind → List ℕ
-kind_word Aig = codes "aig"
-kind_word Xag = codes "xag"
-kind_word Mig = codes "mig"
-kind_word Klut = codes "klut"
 
 -- the word of a format that is read
 abbrev pub read_word : ReadFormat → List ℕ
@@ -47,7 +40,9 @@ IsBetween least n most = (least ≤ n) × (n ≤ most)
 abbrev pub Spells : List (List ℕ) → Command → Type 0
 Spells words (Read format name kind) = IsTrue (is_word name) × (words ≡ codes "read" ∷ read_word format ∷ name ∷ kind_word kind ∷ [])
 Spells words (Write format name) = IsTrue (is_word name) × (words ≡ codes "write" ∷ write_word format ∷ name ∷ [])
-Spells words (Gen kind inputs gates outputs start) = IsBetween 1 inputs 4096 × IsBetween 0 gates 262144 × IsBetween 1 outputs 4096 × (start < 2 ^ 64) × (words ≡ codes "gen" ∷ kind_word kind ∷ decimal inputs ∷ decimal gates ∷ decimal outputs ∷ decimal start ∷ [])
+Spells words (Gen kind g) =
+    IsBetween 1 g.inputs 4096 × IsBetween 0 g.gates 262144 × IsBetween 1 g.outputs 4096 × (g.start < 2 ^ 64)
+    × (words ≡ codes "gen" ∷ kind_word kind ∷ decimal g.inputs ∷ decimal g.gates ∷ decimal g.outputs ∷ decimal g.start ∷ [])
 Spells words (View views.Depth) = words ≡ codes "view" ∷ codes "depth" ∷ []
 Spells words (View _) = ⊥
 Spells words (Drop v) = (v < 2 ^ 32) × (words ≡ codes "drop" ∷ decimal v ∷ [])

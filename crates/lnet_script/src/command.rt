@@ -35,6 +35,19 @@ pub enum Query {
     Level,
 }
 
+/// The numbers of a generated circuit.
+#[derive(Clone, Copy, Debug, PartialEq, Eq)]
+pub struct Generation {
+    /// How many inputs it has, from 1 to 4,096.
+    pub inputs: u32,
+    /// How many gates it has, at most 262,144.
+    pub gates: u32,
+    /// How many outputs it has, from 1 to 4,096.
+    pub outputs: u32,
+    /// The first state of the generator of random numbers.
+    pub start: u64,
+}
+
 /// A command. Its fields are the words of its syntax in their order.
 #[derive(Drop)]
 pub enum Command {
@@ -43,8 +56,8 @@ pub enum Command {
     /// `write FORMAT NAME`: writes the network under the name.
     Write(WriteFormat, Name),
     /// `gen KIND INPUTS GATES OUTPUTS START`: puts the network of the circuit in place, in that kind, that is generated from
-    /// START. INPUTS and OUTPUTS are from 1 to 4,096, and GATES is at most 262,144.
-    Gen(Kind, u32, u32, u32, u64),
+    /// START.
+    Gen(Kind, Generation),
     /// `view depth`: attaches a view from the shelf.
     View(ViewSpec),
     /// `drop V`: puts the view back on the shelf.

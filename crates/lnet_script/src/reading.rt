@@ -5,7 +5,7 @@ ghost use Rattle.lnet_script.specs.Given.{Gives};
 ghost use Rattle.lnet_script.specs.Pieces.{words_of};
 ghost use Rattle.lnet_script.specs.Reading.{next_of, no_word, one_word, two_words, three_words, five_words, read_of, write_of, generate_of, attach_of, drop_of, ask_of, simulate_of, merge_of, convert_of, alone_of, command_of};
 
-use crate::command::Command;
+use crate::command::{Command, Generation};
 use crate::keywords::{
     Verb, kind_named, query_named, read_format_named, verb_named, view_named, write_format_named,
 };
@@ -101,7 +101,16 @@ fn generate(bytes: &[u8]) -> Result<Command, Refusal>
     let inputs = count(inputs, 1, 4096)?;
     let gates = count(gates, 0, 262_144)?;
     let outputs = count(outputs, 1, 4096)?;
-    Ok(Command::Gen(kind, inputs, gates, outputs, long_number(start)?))
+    let start = long_number(start)?;
+    Ok(Command::Gen(
+        kind,
+        Generation {
+            inputs,
+            gates,
+            outputs,
+            start,
+        },
+    ))
 }
 
 /// The word behind `view`: which view.

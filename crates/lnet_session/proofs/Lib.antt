@@ -1,6 +1,7 @@
 pub mod Merged
 pub mod Long
 pub mod Put
+pub mod Unfailed
 pub mod Keeping
 pub mod Places
 pub mod Placed

@@ -11,14 +11,13 @@ use Rattle.lnet_hashed.specs.Views.{Kept, SlotKept, SlotsKept, StandsAs}
 use Rattle.lnet_network.specs.declared.viewing.ViewId.{ViewId}
 use Rattle.lnet_any.specs.declared.any.AnyNet.{AnyNet}
 use Rattle.lnet_any.specs.AnyNets.{network_in, views_in}
-use Rattle.lnet_any.specs.Forms.{form_of}
 use Rattle.lnet_subscriptions.specs.Kept.{Follow, InStepWith, Stand}
 use Rattle.lnet_replies.specs.declared.reply.Reply.{Reply}
 use Rattle.lnet_replies.specs.Texts.{bit_text, bits_word}
 use Rattle.lnet_session.specs.declared.session.Place.{Place}
 use Rattle.lnet_session.specs.declared.session.Session.{Session}
 use Rattle.lnet_session.specs.declared.session.Stop.{Stop}
-use Rattle.lnet_session.specs.Made.{IsSound}
+use Rattle.lnet_build.specs.Sound.{IsSound}
 use Rattle.lnet_session.specs.Merging.{MergesIn, bit_named}
 use Rattle.lnet_session.specs.Effects.{Merges}
 use Rattle.lnet_session.specs.States.{Held}
@@ -72,7 +71,7 @@ module _ {X : Type 0} {F : X → Type 0} (ghosts : (b : DynBox X Global F) → G
   merged-held (Ok answer) o by m =
       subst (λ (h : Option Held). Merges (state_of ghosts s) h o by answer (state_of ghosts (record { place = q; views = s.views }))) (sym (ap held_in is)) (network_in n, m, ap held_in after, refl)
 
-  pub merged-good : IsGood ghosts s → (IsSound (form_of (network_in p.network).kind) (network_in p.network) → IsSound (form_of (network_in n).kind) (network_in n)) → length (network_in n).inputs ≡ length (network_in p.network).inputs → length (network_in n).outputs ≡ length (network_in p.network).outputs → InStepWith (spec_in ghosts) (kept_in ghosts) (room_in ghosts) n → SlotsKept (Kept (kind_in ghosts) (spec_in ghosts) (room_in ghosts)) (views_in p.network) (views_in n) → IsGood ghosts (record { place = q; views = s.views })
+  pub merged-good : IsGood ghosts s → (IsSound (network_in p.network) → IsSound (network_in n)) → length (network_in n).inputs ≡ length (network_in p.network).inputs → length (network_in n).outputs ≡ length (network_in p.network).outputs → InStepWith (spec_in ghosts) (kept_in ghosts) (room_in ghosts) n → SlotsKept (Kept (kind_in ghosts) (spec_in ghosts) (room_in ghosts)) (views_in p.network) (views_in n) → IsGood ghosts (record { place = q; views = s.views })
   merged-good good sound inputs outputs in_step kept =
       let old = subst (IsGoodPlace ghosts s.views) is good in
       let fit : FitNames (network_in n) p.names = record { inputs = old.1.inputs ∙ sym inputs; outputs = old.1.outputs ∙ sym outputs } in

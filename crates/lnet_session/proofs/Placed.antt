@@ -11,39 +11,36 @@ use Rattle.lnet_edge.specs.Shown.{input_names, output_names}
 use Rattle.lnet_naming.specs.Settling.{input_labels, output_labels}
 use Rattle.lnet_build.specs.Built.{names_of}
 use Rattle.lnet_export.specs.Exported.{exported}
-use Rattle.lnet_any.specs.Forms.{form_of}
 use Rattle.lnet_names.specs.NameLists.{NamesValue}
 use Rattle.lnet_script.specs.declared.command.ReadFormat.{ReadFormat}
 use Rattle.lnet_script.specs.declared.command.WriteFormat.{WriteFormat}
 use Rattle.lnet_script.specs.declared.command.WriteFormat.TheVariants as writes
+use Rattle.lnet_replies.specs.declared.reply.Counts.{Counts}
 use Rattle.lnet_replies.specs.declared.reply.Reply.{Reply}
 use Rattle.lnet_replies.specs.declared.reply.Reply.TheVariants as reply
 use Rattle.lnet_subscriptions.specs.Rolls.{all_shelved}
 use Rattle.lnet_session.specs.declared.session.Stop.{Stop}
 use Rattle.lnet_session.specs.States.{Held, State}
-use Rattle.lnet_session.specs.Made.{IsMadeOf}
+use Rattle.lnet_session.specs.Made.{IsMadeOf, counts_of}
 use Rattle.lnet_session.specs.Formats.{HasGatesOf, IsTextOf, MeansIn, inputs_in, outputs_in, text_in}
 use Rattle.lnet_session.specs.Effects.{AgreeOutputs, Converts, Generates, MeansHeld, Places, PutsInPlace, Reads, SaysCounts, Writes, held_inputs_in, held_outputs_in, source_of, with_content, written_text}
 
 -- ---- a network put in place
 
-module _ (old new : State) (kind : Kind) (c : CircuitValue) (N : NetworkValue) (names : NamesValue) (made : IsMadeOf kind (form_of kind) c N) (is : names ≡ names_of c) (held : new.held ≡ Some (record { network = N; names = names })) (roll : new.roll ≡ all_shelved old.roll) where
-  placed-one : (k : Kind) (i o g : ℕ) → SaysCounts N (reply.Network k i o g) → PutsInPlace kind c k i o g old new
-  placed-one k i o g says = record {
+module _ (old new : State) (kind : Kind) (c : CircuitValue) (N : NetworkValue) (names : NamesValue) (made : IsMadeOf kind c N) (is : names ≡ names_of c) (held : new.held ≡ Some (record { network = N; names = names })) (roll : new.roll ≡ all_shelved old.roll) where
+  placed-one : (counts : Counts) → counts ≡ counts_of N → PutsInPlace kind c counts old new
+  placed-one counts says = record {
     network = N;
     made = made;
     held = held ∙ ap (λ (ns : NamesValue). Some (record { network = N; names = ns })) is;
     roll = roll;
-    kind_is = says.0 ∙ made.kind_is;
-    inputs_are = says.1;
-    outputs_are = says.2;
-    gates_are = says.3;
+    counts_are = says;
   }
 
   placed : (answer : Reply) → SaysCounts N answer → Places old kind c answer new
   placed answer says = grind (arith, placed-one)
 
-pub places : (r : Result Reply Stop) (old new : State) (kind : Kind) (c : CircuitValue) (N : NetworkValue) (names : NamesValue) → IsMadeOf kind (form_of kind) c N → names ≡ names_of c → OnOk r (new.held ≡ Some (record { network = N; names = names })) → OnOk r (new.roll ≡ all_shelved old.roll) → IfOk r (SaysCounts N) → IfOk r (λ answer. Places old kind c answer new)
+pub places : (r : Result Reply Stop) (old new : State) (kind : Kind) (c : CircuitValue) (N : NetworkValue) (names : NamesValue) → IsMadeOf kind c N → names ≡ names_of c → OnOk r (new.held ≡ Some (record { network = N; names = names })) → OnOk r (new.roll ≡ all_shelved old.roll) → IfOk r (SaysCounts N) → IfOk r (λ answer. Places old kind c answer new)
 places (Err e) old new kind c N names made is held roll says = tt
 places (Ok answer) old new kind c N names made is held roll says = placed old new kind c N names made is held roll answer says
 

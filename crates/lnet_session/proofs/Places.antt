@@ -1,7 +1,6 @@
 -- What is kept in a session over a change of its views.
-use Rattle.std.proofs.Common.{◌≡◌, false, All, [], ◌++◌, map, Option, Some, None, IsSome, Result, Err, refl, sym, ap, subst, ◌∙◌, Global}
+use Rattle.std.proofs.Common.{◌≡◌, false, All, Option, Some, IsSome, Result, Err, refl, sym, ap, subst, ◌∙◌, Global}
 use Rattle.std.specs.declared.dyn_box.DynBox.{DynBox}
-use Rattle.std.proofs.lemmas.List.{append-nil}
 use Rattle.std.specs.Prelude.{IfOk, OnErr}
 use Rattle.lnet_gates.specs.declared.gate.Kind.TheVariants.{Aig}
 use Rattle.lnet_edge.specs.declared.circuit.Rule.TheVariants.{And}
@@ -9,18 +8,13 @@ use Rattle.lnet_edge.specs.Circuits.{CircuitValue, EquationValue}
 use Rattle.lnet_store.specs.declared.view.View.{Ghosts}
 use Rattle.lnet_network.specs.Cores.{CoreValue}
 use Rattle.lnet_any.specs.declared.any.AnyNet.{AnyNet}
-use Rattle.lnet_any.specs.AnyNets.{core_in, network_in, views_in, watch_in}
-use Rattle.lnet_any.specs.Forms.{form_of}
+use Rattle.lnet_any.specs.AnyNets.{core_in, network_in}
 use Rattle.lnet_names.specs.NameLists.{NamesValue}
 use Rattle.lnet_subscriptions.specs.declared.roll.Subscriptions.{Subscriptions}
-use Rattle.lnet_hashed.specs.Watches.{IsBare}
-use Rattle.lnet_hashed.proofs.KeptViews.{bare_fit}
-use Rattle.lnet_model.specs.Answers.{kind_for}
-use Rattle.lnet_subscriptions.specs.Kept.{Follow, InStepWith, Rest, Stand, roll_of}
-use Rattle.lnet_subscriptions.specs.Rolls.{all_shelved}
+use Rattle.lnet_subscriptions.specs.Kept.{Follow, InStepWith, roll_of}
 use Rattle.lnet_session.specs.declared.session.Place.{Place}
 use Rattle.lnet_session.specs.declared.session.Session.{Session}
-use Rattle.lnet_session.specs.Made.{IsSound}
+use Rattle.lnet_build.specs.Sound.{IsSound}
 use Rattle.lnet_session.specs.Sessions.{FitNames, IsGood, IsGoodPlace, held_in, kept_in, kind_in, room_in, spec_in, state_of}
 
 -- ---- results
@@ -50,8 +44,8 @@ module _ {X : Type 0} {F : X → Type 0} where
   state-after ghosts s q views p n is after core roll = λ i. record { held = held-after s.place q p n is after core i; roll = roll i }
 
   module _ (ghosts : (b : DynBox X Global F) → Ghosts (F b.vtable)) where
-    sound-after : (n m : AnyNet X F) → core_in n ≡ core_in m → IsSound (form_of (network_in m).kind) (network_in m) → IsSound (form_of (network_in n).kind) (network_in n)
-    sound-after n m core h = subst (λ (c : CoreValue). IsSound (form_of c.network.kind) c.network) (sym core) h
+    sound-after : (n m : AnyNet X F) → core_in n ≡ core_in m → IsSound (network_in m) → IsSound (network_in n)
+    sound-after n m core h = subst (λ (c : CoreValue). IsSound c.network) (sym core) h
 
     names-after : (n m : AnyNet X F) (names : NamesValue) → core_in n ≡ core_in m → FitNames (network_in m) names → FitNames (network_in n) names
     names-after n m names core h = subst (λ (c : CoreValue). FitNames c.network names) (sym core) h
@@ -61,26 +55,3 @@ module _ {X : Type 0} {F : X → Type 0} where
     good-after s q views p n is after core good in_step follow =
         let old = subst (IsGoodPlace ghosts s.views) is good in
         subst (IsGoodPlace ghosts views) (sym after) (sound-after n p.network core old.0, names-after n p.network p.names core old.1, in_step, follow)
-
-    -- where nothing is in place no view is live
-    pub none-rests : (s : Session X F) → s.place ≡ None → IsGood ghosts s → Rest (spec_in ghosts) s.views
-    none-rests s is good = subst (IsGoodPlace ghosts s.views) is good
-
-    pub rests-shelved : (views : Subscriptions X F) → Rest (spec_in ghosts) views → roll_of (kind_in ghosts) views ≡ all_shelved (roll_of (kind_in ghosts) views)
-    rests-shelved views rest = λ i. record {
-      live = rest.none i;
-      next = views.next;
-      shelf = (sym (append-nil (map (kind_in ghosts) views.shelf.items)) ∙ ap (λ live. map (kind_in ghosts) views.shelf.items ++ map (λ p. kind_for p.1) live) (sym rest.none)) i;
-    }
-
-    -- a network without views, and no live view
-    pub good-fresh : (views : Subscriptions X F) (n : AnyNet X F) (names : NamesValue) → IsBare (watch_in n) → IsSound (form_of (network_in n).kind) (network_in n) → FitNames (network_in n) names → Rest (spec_in ghosts) views → IsGood ghosts (record { place = Some (record { network = n; names = names }); views = views })
-    good-fresh views n names none sound fit rest = (sound, fit, in_step, follow) where
-      in_step : InStepWith (spec_in ghosts) (kept_in ghosts) (room_in ghosts) n
-      in_step = bare_fit none
-
-      follow : Follow (kind_in ghosts) (spec_in ghosts) n views
-      follow = record {
-        stand = subst (λ live. Stand (kind_in ghosts) (spec_in ghosts) (views_in n) live views.ids.items) (sym rest.none) (subst (Stand (kind_in ghosts) (spec_in ghosts) (views_in n) []) (sym rest.no_ids) tt);
-        detached = rest.detached;
-      }

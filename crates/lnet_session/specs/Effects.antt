@@ -3,7 +3,7 @@ use Rattle.std.specs.Prelude.{◌≡◌, ◌≢◌, ℕ, ◌≤◌, ◌<◌, Boo
 use Rattle.std.specs.FinMap.{get, insert}
 use Rattle.lnet_gates.specs.declared.signal.Signal.{Signal}
 use Rattle.lnet_gates.specs.declared.gate.Kind.{Kind}
-use Rattle.lnet_model.specs.Networks.{NetworkValue, IsLive, gate_count}
+use Rattle.lnet_model.specs.Networks.{NetworkValue, IsLive}
 use Rattle.lnet_model.specs.Dags.{NUMBERS}
 use Rattle.lnet_model.specs.Levels.{level, depth}
 use Rattle.lnet_model.specs.Values.{network_outputs}
@@ -16,7 +16,6 @@ use Rattle.lnet_edge.specs.Shown.{Shows}
 use Rattle.lnet_print.specs.Printed.{print_text}
 use Rattle.lnet_build.specs.Built.{names_of, numbers_needed}
 use Rattle.lnet_export.specs.Exported.{exported}
-use Rattle.lnet_any.specs.Forms.{form_of}
 use Rattle.lnet_generate.specs.Drawing.{generated}
 use Rattle.lnet_script.specs.declared.command.Command.{Command}
 use Rattle.lnet_script.specs.declared.command.Command.TheVariants as command
@@ -26,13 +25,14 @@ use Rattle.lnet_script.specs.declared.command.WriteFormat.{WriteFormat}
 use Rattle.lnet_script.specs.declared.command.WriteFormat.TheVariants as writes
 use Rattle.lnet_naming.specs.Settling.{input_labels, output_labels}
 use Rattle.lnet_replies.specs.declared.reply.Unmet.TheVariants as unmet
+use Rattle.lnet_replies.specs.declared.reply.Counts.{Counts}
 use Rattle.lnet_replies.specs.declared.reply.Reply.{Reply}
 use Rattle.lnet_replies.specs.declared.reply.Reply.TheVariants as reply
 use Rattle.lnet_subscriptions.specs.Rolls.{Attaches, Drops, all_shelved, place_among, place_of, spec_under}
 use Rattle.lnet_session.specs.States.{Held, State}
 use Rattle.lnet_replies.specs.Texts.{bits_word}
 use Rattle.lnet_simulate.specs.Assignments.{assignment}
-use Rattle.lnet_session.specs.Made.{IsMadeOf}
+use Rattle.lnet_session.specs.Made.{IsMadeOf, counts_of}
 use Rattle.lnet_session.specs.Merging.{MergesIn}
 use Rattle.lnet_session.specs.Formats.{HasGatesOf, IsMalformed, MeansIn, reader_of, text_in}
 
@@ -42,35 +42,32 @@ Holds None name bytes = Unit {0}
 Holds (Some m) name bytes = get m name ≡ Some bytes
 
 -- a network of the kind is built of circuit c and put in place, and all live views go to the shelf
-pub record PutsInPlace (kind : Kind) (c : CircuitValue) (k : Kind) (inputs outputs gates : ℕ) (old new : State) : Type 0 where
+pub record PutsInPlace (kind : Kind) (c : CircuitValue) (counts : Counts) (old new : State) : Type 0 where
   pub network : NetworkValue
-  pub made : IsMadeOf kind (form_of kind) c network
+  pub made : IsMadeOf kind c network
   pub held : new.held ≡ Some (record { network = network; names = names_of c })
   pub roll : new.roll ≡ all_shelved old.roll
-  pub kind_is : k ≡ kind
-  pub inputs_are : inputs ≡ length network.inputs
-  pub outputs_are : outputs ≡ length network.outputs
-  pub gates_are : gates ≡ gate_count network
+  pub counts_are : counts ≡ counts_of network
 
 -- the building needs more numbers than there are, and the state is as before
 pub record IsFull (kind : Kind) (c : CircuitValue) (old new : State) : Type 0 where
-  pub needed : NUMBERS < numbers_needed kind (form_of kind) c
+  pub needed : NUMBERS < numbers_needed kind c
   pub state : new ≡ old
 
 -- the answer tells the kind and the counts of a network
 abbrev pub SaysCounts : NetworkValue → Reply → Type 0
-SaysCounts N (reply.Network kind inputs outputs gates) = (kind ≡ N.kind) × (inputs ≡ length N.inputs) × (outputs ≡ length N.outputs) × (gates ≡ gate_count N)
+SaysCounts N (reply.Network counts) = counts ≡ counts_of N
 SaysCounts N _ = ⊥
 
 -- putting the network of a circuit in place, or saying that it is too large
 abbrev pub Places : State → Kind → CircuitValue → Reply → State → Type 0
-Places old kind c (reply.Network k inputs outputs gates) new = PutsInPlace kind c k inputs outputs gates old new
+Places old kind c (reply.Network counts) new = PutsInPlace kind c counts old new
 Places old kind c (reply.Unmet unmet.Full) new = IsFull kind c old new
 Places old kind c _ new = ⊥
 
 -- Reading these bytes as a network of the kind. The source is the circuit that is put in force, where one is.
 abbrev pub Reads : State → ReadFormat → Kind → List ℕ → Reply → Option CircuitValue → State → Type 0
-Reads old format kind bytes (reply.Network k inputs outputs gates) source new = (length bytes ≤ file_limit) × ((c : CircuitValue) × (source ≡ Some c) × MeansIn format bytes c × PutsInPlace kind c k inputs outputs gates old new)
+Reads old format kind bytes (reply.Network counts) source new = (length bytes ≤ file_limit) × ((c : CircuitValue) × (source ≡ Some c) × MeansIn format bytes c × PutsInPlace kind c counts old new)
 Reads old format kind bytes (reply.Unmet unmet.TooLong) source new = (source ≡ None) × (file_limit < length bytes) × (new ≡ old)
 Reads old format kind bytes (reply.Unmet (unmet.Malformed line fault)) source new = (source ≡ None) × (length bytes ≤ file_limit) × IsMalformed format bytes (record { line = line; kind = fault }) × (new ≡ old)
 Reads old format kind bytes (reply.Unmet unmet.Full) source new = (source ≡ None) × (length bytes ≤ file_limit) × ((c : CircuitValue) × MeansIn format bytes c × IsFull kind c old new)
@@ -78,7 +75,7 @@ Reads old format kind bytes _ source new = ⊥
 
 -- the circuit that is put in force, where the answer says that its network is in place
 abbrev pub source_of : CircuitValue → Reply → Option CircuitValue
-source_of c (reply.Network k inputs outputs gates) = Some c
+source_of c (reply.Network counts) = Some c
 source_of c _ = None
 
 -- putting the network of a generated circuit in place
@@ -146,10 +143,10 @@ Prints None (reply.Unmet unmet.NoNetwork) = Unit {0}
 Prints (Some h) (reply.Printed text) = string_bytes text ≡ print_text h.network
 Prints _ _ = ⊥
 
-abbrev pub Counts : Option Held → Reply → Type 0
-Counts None (reply.Unmet unmet.NoNetwork) = Unit {0}
-Counts (Some h) (reply.Stats kind inputs outputs gates d) = (kind ≡ h.network.kind) × (inputs ≡ length h.network.inputs) × (outputs ≡ length h.network.outputs) × (gates ≡ gate_count h.network) × (d ≡ depth h.network)
-Counts _ _ = ⊥
+abbrev pub SaysStats : Option Held → Reply → Type 0
+SaysStats None (reply.Unmet unmet.NoNetwork) = Unit {0}
+SaysStats (Some h) (reply.Stats counts d) = (counts ≡ counts_of h.network) × (d ≡ depth h.network)
+SaysStats _ _ = ⊥
 
 -- the networks have the same outputs under each assignment
 abbrev pub AgreeOutputs : Option Held → Option Held → Type 0
@@ -161,7 +158,7 @@ AgreeOutputs (Some h) (Some k) = (a : ℕ → Bool) → network_outputs k.networ
 -- putting the network of another kind in place that is built of what the network in place is exported to
 abbrev pub Converts : State → Option Held → Kind → Reply → State → Type 0
 Converts old None kind (reply.Unmet unmet.NoNetwork) new = new ≡ old
-Converts old (Some h) kind (reply.Network k inputs outputs gates) new = PutsInPlace kind (exported h.network h.names) k inputs outputs gates old new × AgreeOutputs old.held new.held
+Converts old (Some h) kind (reply.Network counts) new = PutsInPlace kind (exported h.network h.names) counts old new × AgreeOutputs old.held new.held
 Converts old (Some h) kind (reply.Unmet unmet.Full) new = IsFull kind (exported h.network h.names) old new
 Converts old _ kind _ new = ⊥
 
@@ -181,12 +178,12 @@ Merges old (Some h) n s answer new = (Q : NetworkValue) × MergesIn h.network n 
 abbrev pub Effect : State → Option Contents → Command → Reply → Option CircuitValue → State → Option Contents → Type 0
 Effect old before (command.Read format name kind) answer source new after = ((bytes : List ℕ) × Holds before name bytes × Reads old format kind bytes answer source new) × (after ≡ before)
 Effect old before (command.Write format name) answer source new after = Writes format old.held before name answer after × (new ≡ old) × (source ≡ None)
-Effect old before (command.Gen kind inputs gates outputs start) answer source new after = Generates old kind (generated kind inputs gates outputs start) answer source new × (after ≡ before)
+Effect old before (command.Gen kind g) answer source new after = Generates old kind (generated kind g.inputs g.gates g.outputs g.start) answer source new × (after ≡ before)
 Effect old before (command.View spec) answer source new after = Views old spec answer new × (after ≡ before) × (source ≡ None)
 Effect old before (command.Drop number) answer source new after = PutsBack old number answer new × (after ≡ before) × (source ≡ None)
 Effect old before (command.Ask number Level n) answer source new after = AsksLevel old.held old.roll.live number n answer × (new ≡ old) × (after ≡ before) × (source ≡ None)
 Effect old before command.Print answer source new after = Prints old.held answer × (new ≡ old) × (after ≡ before) × (source ≡ None)
-Effect old before command.Stats answer source new after = Counts old.held answer × (new ≡ old) × (after ≡ before) × (source ≡ None)
+Effect old before command.Stats answer source new after = SaysStats old.held answer × (new ≡ old) × (after ≡ before) × (source ≡ None)
 Effect old before (command.Simulate bits) answer source new after = Simulates old.held bits answer × (new ≡ old) × (after ≡ before) × (source ≡ None)
 Effect old before (command.Merge n s) answer source new after = Merges old old.held n s answer new × (after ≡ before) × (source ≡ None)
 Effect old before (command.Convert kind) answer source new after = Converts old old.held kind answer new × (after ≡ before) × (source ≡ None)

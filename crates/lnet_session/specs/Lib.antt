@@ -4,4 +4,5 @@ pub mod Formats
 pub mod Sessions
 pub mod Merging
 pub mod Effects
+pub mod Calls
 pub mod Steps

@@ -5,10 +5,9 @@ use Rattle.lnet_model.specs.Along.{Depends}
 use Rattle.lnet_model.specs.Changes.{IsGateAt}
 use Rattle.lnet_model.specs.Networks.{NetworkValue, IsLive, gate_count}
 use Rattle.lnet_model.specs.Values.{network_outputs}
-use Rattle.lnet_any.specs.Forms.{form_of}
 use Rattle.lnet_simulate.specs.Assignments.{AgreeUnder, DifferFirst}
 use Rattle.lnet_substitution.specs.Substitutions.{Substitutes}
-use Rattle.lnet_session.specs.Made.{IsSound}
+use Rattle.lnet_build.specs.Sound.{IsSound}
 use Rattle.lnet_replies.specs.declared.reply.Unmet.{Unmet}
 use Rattle.lnet_replies.specs.declared.reply.Unmet.TheVariants as unmet
 use Rattle.lnet_replies.specs.declared.reply.Reply.{Reply}
@@ -40,8 +39,8 @@ StandsInTheWay N n s (Some cause) = ⊥
 
 -- Q is what the substitution of s for gate n leaves of N, it computes what N computes, and it is sound where N is
 pub record GivesWay (N : NetworkValue) (n : ℕ) (s : Signal) (Q : NetworkValue) : Type 0 where
-  pub leaves : Substitutes N.kind (form_of N.kind) N n s Q
-  pub sound : IsSound (form_of N.kind) N → IsSound (form_of Q.kind) Q
+  pub leaves : Substitutes N.kind N n s Q
+  pub sound : IsSound N → IsSound Q
   pub outputs : (a : ℕ → Bool) → network_outputs Q a ≡ network_outputs N a
 
 -- merging, by its answer

@@ -9,14 +9,13 @@ use Rattle.lnet_model.specs.declared.view_spec.ViewSpec.{ViewSpec}
 use Rattle.lnet_store.specs.declared.view.View.{Ghosts}
 use Rattle.lnet_names.specs.NameLists.{NamesValue}
 use Rattle.lnet_any.specs.AnyNets.{network_in}
-use Rattle.lnet_any.specs.Forms.{form_of}
 use Rattle.lnet_subscriptions.specs.Kept.{AreDetached, Follow, InStepWith, Rest, roll_of}
 use Rattle.lnet_subscriptions.specs.declared.roll.Subscriptions.{Subscriptions}
 use Rattle.lnet_session.specs.declared.session.Kit.{Kit}
 use Rattle.lnet_session.specs.declared.session.Place.{Place}
 use Rattle.lnet_session.specs.declared.session.Session.{Session}
 use Rattle.lnet_session.specs.States.{Held, State}
-use Rattle.lnet_session.specs.Made.{IsSound}
+use Rattle.lnet_build.specs.Sound.{IsSound}
 
 -- what is in place, as contracts see it
 abbrev pub held_in : {X : Type 0} {F : X → Type 0} → Option (Place X F) → Option Held
@@ -49,7 +48,7 @@ pub record FitNames (N : NetworkValue) (names : NamesValue) : Type 0 where
 -- of the session are its views. Where nothing is in place no view is live. The views on the shelf are detached
 abbrev pub IsGoodPlace : {X : Type 0} {F : X → Type 0} → ((b : DynBox X Global F) → Ghosts (F b.vtable)) → Subscriptions X F → Option (Place X F) → Type 0
 IsGoodPlace ghosts views None = Rest (spec_in ghosts) views
-IsGoodPlace ghosts views (Some p) = IsSound (form_of (network_in p.network).kind) (network_in p.network) × FitNames (network_in p.network) p.names × InStepWith (spec_in ghosts) (kept_in ghosts) (room_in ghosts) p.network × Follow (kind_in ghosts) (spec_in ghosts) p.network views
+IsGoodPlace ghosts views (Some p) = IsSound (network_in p.network) × FitNames (network_in p.network) p.names × InStepWith (spec_in ghosts) (kept_in ghosts) (room_in ghosts) p.network × Follow (kind_in ghosts) (spec_in ghosts) p.network views
 
 -- the same of a session
 abbrev pub IsGood : {X : Type 0} {F : X → Type 0} → ((b : DynBox X Global F) → Ghosts (F b.vtable)) → Session X F → Type 0

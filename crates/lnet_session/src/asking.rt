@@ -2,17 +2,18 @@
 
 ghost use Rattle.std.specs.Prelude.{◌≡◌, ◌≤◌, ◌<◌, ◌+◌, ◌-◌, ◌^◌, ◌↔◌, All, IfOk, IfErr, IsTrue, OnErr, IsErrOf, Some, false, length};
 ghost use Rattle.lnet_model.specs.Answers.{IsSpec};
-ghost use Rattle.lnet_edge.specs.Outside.{Rose, call_of};
+ghost use Rattle.lnet_edge.specs.Circuits.{circuit_limit};
+ghost use Rattle.lnet_edge.specs.Outside.{call_of, one_more};
 ghost use Rattle.lnet_edge.specs.declared.outside.Direction.TheVariants.{Store};
 ghost use Rattle.lnet_edge.specs.Plain.{IsPlain};
 ghost use Rattle.lnet_edge.specs.declared.circuit.Rule.TheVariants.{And};
 ghost use Rattle.lnet_session.specs.Formats.{HasAndsAlone, HasGatesOf, IsTextOf, text_in};
-ghost use Rattle.lnet_session.specs.Effects.{AsksLevel, Counts, Prints, PutsBack, Views, Writes};
+ghost use Rattle.lnet_session.specs.Effects.{AsksLevel, Prints, PutsBack, SaysStats, Views, Writes};
 ghost use Rattle.lnet_session.specs.Sessions.{IsGoodBy, state_by};
-ghost use Rattle.lnet_session.specs.Steps.{CanWrite};
+ghost use Rattle.lnet_session.specs.Calls.{CanWrite, at_fault};
 
 use crate::circuits::export;
-use crate::session::{Session, Stop};
+use crate::session::{Session, Stop, counts_of};
 use lnet_aiger::{write_ascii, write_binary};
 use lnet_edge::{Circuit, Files, Name, PutError};
 use lnet_gates::{Kind, Node};
@@ -37,7 +38,7 @@ fn has_gates_of(format: WriteFormat, kind: Kind) -> bool
 fn text_of(alloc: Global, format: WriteFormat, circuit: &Circuit) -> Result<Vec<u8>, AllocError>
     requires plain { IsPlain circuit.now.equations }
     requires ands { HasAndsAlone format → All (λ e. e.rule ≡ And false) circuit.now.equations }
-    requires few { length circuit.now.inputs + length circuit.now.equations ≤ 1048576 }
+    requires few { length circuit.now.inputs + length circuit.now.equations ≤ circuit_limit }
     ensures text { IfOk result (λ v. v.items ≡ text_in format circuit.now) }
     ensures means { IfOk result (λ v. IsTextOf format v.items circuit.now) }
 {
@@ -121,7 +122,7 @@ impl Session {
 
     /// The network's kind, counts and depth.
     pub(crate) fn stats(&self) -> Result<Reply, Stop>
-        ensures counts { IfOk result (Counts (state_by ⟦<dyn View as View>⟧ self.now).held) }
+        ensures counts { IfOk result (SaysStats (state_by ⟦<dyn View as View>⟧ self.now).held) }
         ensures memory { IfErr result (λ stop. stop ≡ Stop.NoMemory) }
     {
         let Some(place) = &self.place else {
@@ -129,10 +130,7 @@ impl Session {
         };
         match place.network.depth() {
             Ok(depth) => Ok(Reply::Stats {
-                kind: place.network.kind(),
-                inputs: place.network.input_count(),
-                outputs: place.network.output_count(),
-                gates: place.network.gate_count(),
+                counts: counts_of(&place.network),
                 depth,
             }),
             Err(_) => Err(Stop::NoMemory),
@@ -150,10 +148,9 @@ impl Session {
         requires good { IsGoodBy ⟦<dyn View as View>⟧ self.now }
         ensures writes { IfOk result (λ answer. Writes format (state_by ⟦<dyn View as View>⟧ self.now).held (F.contents files.old) name.now answer (F.contents files.new)) }
         ensures err { OnErr result (F.contents files.new ≡ F.contents files.old) }
-        ensures later { F.faults files.old ≤ F.faults files.new }
         ensures allowed { IsErrOf result Stop.Fault → CanWrite format (state_by ⟦<dyn View as View>⟧ self.now).held }
-        ensures fault { IsErrOf result Stop.Fault → Rose (F.faults files.old) (F.faults files.new) }
-        ensures last { IsErrOf result Stop.Fault → F.last files.new ≡ Some (call_of Store name.now) }
+        ensures faults { F.faults files.new ≡ at_fault result (one_more (F.faults files.old)) (F.faults files.old) }
+        ensures last { F.last files.new ≡ at_fault result (Some (call_of Store name.now)) (F.last files.old) }
     {
         let Some(place) = &self.place else {
             return Ok(Reply::Unmet(Unmet::NoNetwork));

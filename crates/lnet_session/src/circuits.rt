@@ -4,6 +4,7 @@ ghost use Rattle.std.specs.Prelude.{◌≡◌, ◌<◌, ◌≤◌, ◌+◌, [], 
 ghost use Rattle.lnet_gates.specs.declared.gate.Kind.TheVariants.{Aig};
 ghost use Rattle.lnet_model.specs.Dags.{NUMBERS};
 ghost use Rattle.lnet_model.specs.Values.{network_outputs};
+ghost use Rattle.lnet_edge.specs.Circuits.{circuit_limit};
 ghost use Rattle.lnet_edge.specs.Values.{circuit_outputs};
 ghost use Rattle.lnet_edge.specs.Plain.{IsPlain};
 ghost use Rattle.lnet_edge.specs.declared.circuit.Rule.TheVariants.{And};
@@ -11,7 +12,6 @@ ghost use Rattle.lnet_build.specs.Built.{names_of, numbers_needed};
 ghost use Rattle.lnet_export.specs.Exported.{exported};
 ghost use Rattle.lnet_any.specs.AnyNets.{network_in, watch_in};
 ghost use Rattle.lnet_hashed.specs.Watches.{IsBare};
-ghost use Rattle.lnet_any.specs.Forms.{form_of};
 ghost use Rattle.lnet_session.specs.Made.{IsMadeOf};
 
 use lnet_any::AnyNet;
@@ -27,10 +27,10 @@ use std::alloc::{AllocError, Global};
 
 /// The network of a circuit in one kind, and the names of its inputs and outputs.
 fn made<G: Gates>(alloc: Global, circuit: &Circuit) -> Result<(Network<G>, Names), AddError>
-    ensures made { IfOk result (λ r. IsMadeOf G.KIND G.form circuit.now r.0.core.network) }
+    ensures made { IfOk result (λ r. IsMadeOf G.KIND circuit.now r.0.core.network) }
     ensures names { IfOk result (λ r. r.1 ≡ names_of circuit.now) }
     ensures views { IfOk result (λ r. IsBare r.0.watch) }
-    ensures full { result ≡ Err AddError.Full → NUMBERS < numbers_needed G.KIND G.form circuit.now }
+    ensures full { result ≡ Err AddError.Full → NUMBERS < numbers_needed G.KIND circuit.now }
 {
     let core = match Core::new(alloc) {
         Ok(core) => core,
@@ -55,10 +55,10 @@ pub(crate) fn build(
     kind: Kind,
     circuit: &Circuit,
 ) -> Result<(AnyNet, Names), AddError>
-    ensures made { IfOk result (λ r. IsMadeOf kind (form_of kind) circuit.now (network_in r.0)) }
+    ensures made { IfOk result (λ r. IsMadeOf kind circuit.now (network_in r.0)) }
     ensures names { IfOk result (λ r. r.1 ≡ names_of circuit.now) }
     ensures views { IfOk result (λ r. IsBare (watch_in r.0)) }
-    ensures full { result ≡ Err AddError.Full → NUMBERS < numbers_needed kind (form_of kind) circuit.now }
+    ensures full { result ≡ Err AddError.Full → NUMBERS < numbers_needed kind circuit.now }
 {
     match kind {
         Kind::Aig => match made(alloc, circuit) {
@@ -92,7 +92,7 @@ fn circuit_of<G: Gates>(
     ensures outputs { IfOk result (λ c. (a : ℕ → Bool) → circuit_outputs c a ≡ network_outputs net.now.core.network a) }
     ensures plain { IfOk result (λ c. IsPlain c.equations) }
     ensures ands { IfOk result (λ c. net.now.core.network.kind ≡ Aig → All (λ e. e.rule ≡ And false) c.equations) }
-    ensures few { IfOk result (λ c. length c.inputs + length c.equations ≤ 1048576) }
+    ensures few { IfOk result (λ c. length c.inputs + length c.equations ≤ circuit_limit) }
     ensures input_names { IfOk result (λ c. map (λ p. p.name) c.inputs ≡ names.now.inputs) }
     ensures output_names { IfOk result (λ c. map (λ p. p.name) c.outputs ≡ names.now.outputs) }
 {
@@ -111,7 +111,7 @@ pub(crate) fn export(alloc: Global, net: &AnyNet, names: &Names) -> Result<Circu
     ensures outputs { IfOk result (λ c. (a : ℕ → Bool) → circuit_outputs c a ≡ network_outputs (network_in net.now) a) }
     ensures plain { IfOk result (λ c. IsPlain c.equations) }
     ensures ands { IfOk result (λ c. (network_in net.now).kind ≡ Aig → All (λ e. e.rule ≡ And false) c.equations) }
-    ensures few { IfOk result (λ c. length c.inputs + length c.equations ≤ 1048576) }
+    ensures few { IfOk result (λ c. length c.inputs + length c.equations ≤ circuit_limit) }
     ensures input_names { IfOk result (λ c. map (λ p. p.name) c.inputs ≡ names.now.inputs) }
     ensures output_names { IfOk result (λ c. map (λ p. p.name) c.outputs ≡ names.now.outputs) }
 {

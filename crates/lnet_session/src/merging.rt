@@ -6,12 +6,11 @@ ghost use Rattle.lnet_model.specs.Networks.{IsLive};
 ghost use Rattle.lnet_model.specs.Values.{network_outputs};
 ghost use Rattle.lnet_hashed.specs.Watches.{AreToldBy};
 ghost use Rattle.lnet_any.specs.AnyNets.{core_in, network_in, watch_in};
-ghost use Rattle.lnet_any.specs.Forms.{form_of};
 ghost use Rattle.lnet_simulate.specs.Assignments.{AgreeUnder, DifferFirst, assignment};
 ghost use Rattle.lnet_subscriptions.specs.Kept.{InStepWith};
 ghost use Rattle.lnet_replies.specs.Texts.{bits_word};
 ghost use Rattle.lnet_session.specs.Effects.{Merges, Simulates};
-ghost use Rattle.lnet_session.specs.Made.{IsSound};
+ghost use Rattle.lnet_build.specs.Sound.{IsSound};
 ghost use Rattle.lnet_session.specs.Merging.{MergesIn, StandsInTheWay, bit_named};
 ghost use Rattle.lnet_session.specs.Sessions.{IsGoodBy, state_by};
 
@@ -122,7 +121,7 @@ fn merge_in(alloc: Global, net: &mut AnyNet, n: Node, s: Signal) -> Result<Reply
     ensures merges { IfOk result (λ answer. MergesIn (network_in net.old) n.0 s answer (network_in net.new)) }
     ensures err { OnErr result (net.new ≡ net.old) }
     ensures memory { IfErr result (λ stop. stop ≡ Stop.NoMemory) }
-    ensures sound { IsSound (form_of (network_in net.old).kind) (network_in net.old) → IsSound (form_of (network_in net.new).kind) (network_in net.new) }
+    ensures sound { IsSound (network_in net.old) → IsSound (network_in net.new) }
     ensures inputs { length (network_in net.new).inputs ≡ length (network_in net.old).inputs }
     ensures outputs { length (network_in net.new).outputs ≡ length (network_in net.old).outputs }
     ensures in_step { AreToldBy ⟦<dyn View as View>⟧ (network_in net.new) (core_in net.new).room (watch_in net.old) (watch_in net.new) }

@@ -1,11 +1,12 @@
 //! The commands that put a network in place: of a file, of a generated circuit, and of another kind.
 
-ghost use Rattle.std.specs.Prelude.{◌≡◌, ◌≤◌, ℕ, List, Option, length, IfOk, IfErr, OnErr, IsErrOf, Err, Some};
+ghost use Rattle.std.specs.Prelude.{◌≡◌, ◌≤◌, ℕ, List, Option, length, IfOk, IfErr, OnErr, Err, Some};
 ghost use Rattle.lnet_edge.specs.Circuits.{CircuitValue};
 ghost use Rattle.lnet_edge.specs.declared.fault.Malformed.{Malformed as MalformedValue};
-ghost use Rattle.lnet_edge.specs.Outside.{Rose, call_of, file_limit};
+ghost use Rattle.lnet_edge.specs.Outside.{call_of, file_limit, one_more};
 ghost use Rattle.lnet_edge.specs.declared.outside.Direction.TheVariants.{Fetch};
 ghost use Rattle.lnet_generate.specs.Drawing.{generated};
+ghost use Rattle.lnet_session.specs.Calls.{at_fault};
 ghost use Rattle.lnet_session.specs.Effects.{Converts, Generates, Holds, Places, Reads};
 ghost use Rattle.lnet_session.specs.Formats.{IsMalformed, MeansIn};
 ghost use Rattle.lnet_session.specs.Sessions.{IsGoodBy, state_by};
@@ -16,7 +17,7 @@ use lnet_edge::{Circuit, FetchError, Files, Name, ReadError};
 use lnet_gates::Kind;
 use lnet_generate::generate;
 use lnet_replies::{Reply, Unmet};
-use lnet_script::ReadFormat;
+use lnet_script::{Generation, ReadFormat};
 use lnet_store::{AddError, View};
 use std::alloc::Global;
 
@@ -78,20 +79,23 @@ impl Session {
         &mut self,
         alloc: Global,
         kind: Kind,
-        inputs: u32,
-        gates: u32,
-        outputs: u32,
-        start: u64,
+        sizes: Generation,
     ) -> Result<Reply, Stop>
-        requires inputs { (1 ≤ inputs) × (inputs ≤ 4096) }
-        requires gates { gates ≤ 262144 }
-        requires outputs { outputs ≤ 4096 }
+        requires inputs { (1 ≤ sizes.inputs) × (sizes.inputs ≤ 4096) }
+        requires gates { sizes.gates ≤ 262144 }
+        requires outputs { sizes.outputs ≤ 4096 }
         requires good { IsGoodBy ⟦<dyn View as View>⟧ self.old }
-        ensures generates { IfOk result (λ answer. (source : Option CircuitValue) × Generates (state_by ⟦<dyn View as View>⟧ self.old) kind (generated kind inputs gates outputs start) answer source (state_by ⟦<dyn View as View>⟧ self.new)) }
+        ensures generates { IfOk result (λ answer. (source : Option CircuitValue) × Generates (state_by ⟦<dyn View as View>⟧ self.old) kind (generated kind sizes.inputs sizes.gates sizes.outputs sizes.start) answer source (state_by ⟦<dyn View as View>⟧ self.new)) }
         ensures err { OnErr result (state_by ⟦<dyn View as View>⟧ self.new ≡ state_by ⟦<dyn View as View>⟧ self.old) }
         ensures memory { IfErr result (λ stop. stop ≡ Stop.NoMemory) }
         ensures good { IsGoodBy ⟦<dyn View as View>⟧ self.new }
     {
+        let Generation {
+            inputs,
+            gates,
+            outputs,
+            start,
+        } = sizes;
         let Ok(circuit) = generate(alloc, kind, inputs, gates, outputs, start) else {
             return Err(Stop::NoMemory);
         };
@@ -128,9 +132,8 @@ impl Session {
         ensures reads { IfOk result (λ answer. (bytes : List ℕ) × Holds (F.contents files.old) name.now bytes × ((source : Option CircuitValue) × Reads (state_by ⟦<dyn View as View>⟧ self.old) format kind bytes answer source (state_by ⟦<dyn View as View>⟧ self.new))) }
         ensures contents { F.contents files.new ≡ F.contents files.old }
         ensures err { OnErr result (state_by ⟦<dyn View as View>⟧ self.new ≡ state_by ⟦<dyn View as View>⟧ self.old) }
-        ensures later { F.faults files.old ≤ F.faults files.new }
-        ensures fault { IsErrOf result Stop.Fault → Rose (F.faults files.old) (F.faults files.new) }
-        ensures last { IsErrOf result Stop.Fault → F.last files.new ≡ Some (call_of Fetch name.now) }
+        ensures faults { F.faults files.new ≡ at_fault result (one_more (F.faults files.old)) (F.faults files.old) }
+        ensures last { F.last files.new ≡ at_fault result (Some (call_of Fetch name.now)) (F.last files.old) }
         ensures good { IsGoodBy ⟦<dyn View as View>⟧ self.new }
     {
         match files.fetch(alloc, name.as_str()) {

@@ -3,17 +3,17 @@
 ghost use Rattle.std.specs.Prelude.{◌≡◌, [], option_map, Some, None, IfOk, IfErr, OnOk, OnErr};
 ghost use Rattle.lnet_any.specs.AnyNets.{network_in, watch_in};
 ghost use Rattle.lnet_hashed.specs.Watches.{IsBare};
-ghost use Rattle.lnet_any.specs.Forms.{form_of};
 ghost use Rattle.std.specs.List.{count_by};
 ghost use Rattle.lnet_subscriptions.specs.Rolls.{all_shelved, same_kind};
 ghost use Rattle.lnet_session.specs.Effects.{SaysCounts};
-ghost use Rattle.lnet_session.specs.Made.{IsSound};
+ghost use Rattle.lnet_session.specs.Made.{counts_of as network_counts};
+ghost use Rattle.lnet_build.specs.Sound.{IsSound};
 ghost use Rattle.lnet_session.specs.Sessions.{AreDetachedBy, IsAtRestBy, IsGoodBy, FitNames, first_state_by, state_by};
 
 use lnet_any::AnyNet;
 use lnet_model::{ViewKind, ViewSpec};
 use lnet_names::Names;
-use lnet_replies::Reply;
+use lnet_replies::{Counts, Reply};
 use lnet_store::View;
 use lnet_subscriptions::Subscriptions;
 use std::alloc::Global;
@@ -130,7 +130,7 @@ impl Session {
     pub(crate) fn put_in_place(&mut self, network: AnyNet, names: Names) -> Result<Reply, Stop>
         requires good { IsGoodBy ⟦<dyn View as View>⟧ self.old }
         requires none { IsBare (watch_in network) }
-        requires sound { IsSound (form_of (network_in network).kind) (network_in network) }
+        requires sound { IsSound (network_in network) }
         requires names { FitNames (network_in network) names }
         ensures held { OnOk result ((state_by ⟦<dyn View as View>⟧ self.new).held ≡ Some (record { network = network_in network; names = names })) }
         ensures roll { OnOk result ((state_by ⟦<dyn View as View>⟧ self.new).roll ≡ all_shelved (state_by ⟦<dyn View as View>⟧ self.old).roll) }
@@ -141,9 +141,9 @@ impl Session {
     {
         match self.shelve_views() {
             Ok(()) => {
-                let reply = counts_of(&network);
+                let counts = counts_of(&network);
                 self.place = Some(Place { network, names });
-                Ok(reply)
+                Ok(Reply::Network(counts))
             }
             Err(stop) => Err(stop),
         }
@@ -151,10 +151,10 @@ impl Session {
 }
 
 /// The kind and the counts of a network.
-fn counts_of(network: &AnyNet) -> Reply
-    ensures { SaysCounts (network_in network.now) result }
+pub(crate) fn counts_of(network: &AnyNet) -> Counts
+    ensures { result ≡ network_counts (network_in network.now) }
 {
-    Reply::Network {
+    Counts {
         kind: network.kind(),
         inputs: network.input_count(),
         outputs: network.output_count(),

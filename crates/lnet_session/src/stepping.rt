@@ -2,10 +2,11 @@
 
 ghost use Rattle.std.specs.Prelude.{◌≡◌, ◌<◌, ◌≤◌, ◌+◌, ◌-◌, ◌^◌, Option, IfOk, OnErr, IsErrOf};
 ghost use Rattle.lnet_edge.specs.Circuits.{CircuitValue};
-ghost use Rattle.lnet_edge.specs.Outside.{Rose};
+ghost use Rattle.lnet_edge.specs.Outside.{one_more};
+ghost use Rattle.lnet_session.specs.Calls.{MakesCall, at_fault, own_call};
 ghost use Rattle.lnet_session.specs.Effects.{Effect};
 ghost use Rattle.lnet_session.specs.Sessions.{IsGoodBy, state_by};
-ghost use Rattle.lnet_session.specs.Steps.{IsCommand, Steps, World, KeepsOutputs, MakesCall, end_of, own_call};
+ghost use Rattle.lnet_session.specs.Steps.{IsCommand, KeepsOutputs, Steps, World, end_of, world_of};
 
 use crate::session::{Session, Stop};
 use lnet_edge::{Files, PutError, Sink};
@@ -30,6 +31,7 @@ pub enum StepEnd {
 
 impl Session {
     /// What the command does before its text is put, and what it answers.
+    #[tactic(auto, using(crate::proofs::Unfailed::no_fault))]
     fn effect<F: Files>(
         &mut self,
         alloc: Global,
@@ -42,10 +44,9 @@ impl Session {
         ensures effect { IfOk result (λ answer. (source : Option CircuitValue) × Effect (state_by ⟦<dyn View as View>⟧ self.old) (F.contents files.old) command.now answer source (state_by ⟦<dyn View as View>⟧ self.new) (F.contents files.new)) }
         ensures state { OnErr result (state_by ⟦<dyn View as View>⟧ self.new ≡ state_by ⟦<dyn View as View>⟧ self.old) }
         ensures contents { OnErr result (F.contents files.new ≡ F.contents files.old) }
-        ensures later { F.faults files.old ≤ F.faults files.new }
         ensures allowed { IsErrOf result Stop.Fault → MakesCall command.now (state_by ⟦<dyn View as View>⟧ self.old) }
-        ensures fault { IsErrOf result Stop.Fault → Rose (F.faults files.old) (F.faults files.new) }
-        ensures last { IsErrOf result Stop.Fault → F.last files.new ≡ own_call command.now }
+        ensures faults { F.faults files.new ≡ at_fault result (one_more (F.faults files.old)) (F.faults files.old) }
+        ensures last { F.last files.new ≡ at_fault result (own_call command.now) (F.last files.old) }
         ensures good { IsGoodBy ⟦<dyn View as View>⟧ self.new }
     {
         match command {
@@ -53,9 +54,7 @@ impl Session {
                 self.read_file(alloc, *format, name, *kind, files)
             }
             Command::Write(format, name) => self.write_file(alloc, *format, name, files),
-            Command::Gen(kind, inputs, gates, outputs, start) => {
-                self.generate(alloc, *kind, *inputs, *gates, *outputs, *start)
-            }
+            Command::Gen(kind, sizes) => self.generate(alloc, *kind, *sizes),
             Command::View(spec) => self.view(*spec),
             Command::Drop(number) => self.put_back(*number),
             Command::Ask(number, _, node) => Ok(self.ask_level(*number, Node(*node))),
@@ -72,7 +71,8 @@ impl Session {
     /// The index counts the commands of the script from 1 and stands in the line of an unmet command.
     /// After `Unmet` the session and the files' contents are as before. After `Fault` of a fetch or a store they are
     /// as before too; after `Fault` of the put the command's effect stands. After `NoMemory` they are as before, or
-    /// the command's whole effect stands; nothing was put.
+    /// the command's whole effect stands; nothing was put. At `Fault` one more fault is counted, of the files or of the
+    /// sink; at any other end no call failed.
     #[tactic(auto, using(crate::proofs::Keeping::effect_keeps, crate::proofs::Keeping::same_keeps, crate::proofs::Numbers::effect_next))]
     pub fn step<F: Files, S: Sink>(
         &mut self,
@@ -86,10 +86,8 @@ impl Session {
         requires next { (state_by ⟦<dyn View as View>⟧ self.old).roll.next < 2 ^ 32 - 1 }
         requires good { IsGoodBy ⟦<dyn View as View>⟧ self.old }
         ensures step { Steps command.now index result
-            (record { state = state_by ⟦<dyn View as View>⟧ self.old; contents = F.contents files.old; written = S.written out.old; file_faults = F.faults files.old; last = F.last files.old; sink_faults = S.faults out.old })
-            (record { state = state_by ⟦<dyn View as View>⟧ self.new; contents = F.contents files.new; written = S.written out.new; file_faults = F.faults files.new; last = F.last files.new; sink_faults = S.faults out.new }) }
-        ensures file_faults { F.faults files.old ≤ F.faults files.new }
-        ensures sink_faults { S.faults out.old ≤ S.faults out.new }
+            (world_of F.Files S.Sink (state_by ⟦<dyn View as View>⟧ self.old) files.old out.old)
+            (world_of F.Files S.Sink (state_by ⟦<dyn View as View>⟧ self.new) files.new out.new) }
         ensures kept { KeepsOutputs command.now (state_by ⟦<dyn View as View>⟧ self.old) (state_by ⟦<dyn View as View>⟧ self.new) }
         ensures numbers { (state_by ⟦<dyn View as View>⟧ self.new).roll.next ≤ (state_by ⟦<dyn View as View>⟧ self.old).roll.next + 1 }
         ensures good { IsGoodBy ⟦<dyn View as View>⟧ self.new }

@@ -24,11 +24,6 @@ pub each-lane : (j : ℕ) → j < 64 → is_set 18446744073709551615 j ≡ true
 unfolding is_set
 each-lane j lt = ap (λ k. k == 1) (bit_at_ones 64 j lt)
 
--- a word, complemented where the flag is set
-pub flipped-lane : (c : Bool) (w j : ℕ) → w < 2 ^ 64 → j < 64 → is_set (cond c (bit_not w64 w) w) j ≡ flip c (is_set w j)
-flipped-lane true w j fits lt = set_not w j fits lt
-flipped-lane false w j fits lt = refl
-
 -- ---- the lanes at which the fanins have a row's values
 
 two_more : (n : ℕ) → 2 ^ suc n ≡ 2 * 2 ^ n

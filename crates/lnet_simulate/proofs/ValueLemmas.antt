@@ -46,9 +46,6 @@ word-of-gate N ws n w g acyclic is computes inputs inputs_set read j lt =
     let right : (m : ℕ) → In m (nodes_read g.fanins) → IsRight N inputs ws m = (λ m i. read m (subst (λ o. In m (fanin_nodes o)) (sym at) i)) in
     computes j lt ∙ ap (apply g.op g.phase) (lanes-right N inputs ws j lt g.fanins right) ∙ sym (gate_value N (lane inputs j) n g acyclic at)
 
-pub word-of-input : (N : NetworkValue) (ws : List ℕ) (n k : ℕ) → entry_at N n ≡ Some (Input k) → IsWordOf N ws n (get_or ws n 0)
-word-of-input N ws n k is inputs inputs_set read j lt = inputs_set n k is j lt
-
 pub word-of-other : (N : NetworkValue) (ws : List ℕ) (n : ℕ) → Acyclic N → gate_at N n ≡ None → ((k : ℕ) → entry_at N n ≡ Some (Input k) → ⊥) → IsWordOf N ws n 0
 word-of-other N ws n acyclic none no_input inputs inputs_set read j lt = no-lane j ∙ sym (other-value N (lane inputs j) n acyclic none no_input)
 

@@ -3,24 +3,13 @@
 ghost use Rattle.std.specs.Prelude.{◌≡◌, ℕ, ◌+◌, ◌*◌, ◌^◌, ◌<◌, ◌≤◌, ◌-◌, length, slice_index, nat_lt};
 ghost use Rattle.lnet_tables.specs.Bits.{is_set};
 
-/// The words whose lane `j` is bit `i` of `j`, for each `i`.
-const VARIABLES: [u64; 6] = [
-    0xaaaaaaaaaaaaaaaa,
-    0xcccccccccccccccc,
-    0xf0f0f0f0f0f0f0f0,
-    0xff00ff00ff00ff00,
-    0xffff0000ffff0000,
-    0xffffffff00000000,
-];
-
-/// The words whose first `2^i` lanes are true and no others, for each `i`.
-const FIRST: [u64; 7] = [0x1, 0x3, 0xf, 0xff, 0xffff, 0xffffffff, u64::MAX];
+use lnet_tables::{first_rows, high_rows};
 
 /// The lanes of one block that are assignments of so many inputs: all 64 from 6 inputs on.
 pub(crate) fn used_lanes(inputs: u32) -> u64
     ensures { (j : ℕ) → j < 64 → is_set result j ≡ nat_lt j (2 ^ inputs) }
 {
-    FIRST[inputs.min(6) as usize]
+    first_rows(inputs.min(6) as usize)
 }
 
 /// How many blocks of 64 hold the assignments of so many inputs.
@@ -39,7 +28,7 @@ fn input_word(i: usize, block: u32) -> u64
     ensures { (j : ℕ) → j < 64 → is_set result j ≡ is_set (64 * block + j) i }
 {
     if i < 6 {
-        VARIABLES[i]
+        high_rows(i)
     } else if (block >> (i - 6)) & 1 == 1 {
         u64::MAX
     } else {

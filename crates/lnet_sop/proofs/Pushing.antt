@@ -10,7 +10,7 @@ use Rattle.lnet_tables.specs.Shannon.{Laid, Lays, given, after, other, and_at, o
 use Rattle.lnet_tables.proofs.ShannonSteps.{lays_given, lays_after, refused_as, other_plain}
 use Rattle.lnet_sop.specs.declared.cover.Cube.{Cube}
 use Rattle.lnet_sop.specs.declared.factoring.FactorError.{FactorError}
-use Rattle.lnet_sop.specs.declared.factoring.FactorError.TheVariants.{Full, NoMemory}
+use Rattle.lnet_sop.specs.declared.factoring.FactorError.TheVariants.{Full}
 use Rattle.lnet_sop.specs.Isop.{universe}
 use Rattle.lnet_sop.specs.Factored.{Forms, conjunction, literal_at, disjunction, cube_at, quotient, remainder, multiple_at, with_rest, divided, form_of}
 
@@ -124,8 +124,6 @@ disjunction_refused s t u a e r cs c i n m lt h first ec en then =
     (disjunction_step s t u a (Err e) cs c i n first ec en then)
 
 -- ---- where memory may run out
-no_memory : (Err NoMemory ≡ (let r : Result Lit FactorError = Err Full in r)) → ⊥
-no_memory e = cc
 
 pub forms_lays : (s t : RecipeValue) (a : Lit) (x : Laid) → Lays s t (Ok a) x → Forms s t (Ok a) x
 forms_lays s t a x h = record { fits = λ k. h.fits.0 refl; full = λ e. cc; steps = h.steps; root = h.root; inside = h.inside }
@@ -138,9 +136,6 @@ forms_full s t e r x h lays = subst (λ (q : Result Lit FactorError). Forms s t 
   root = tt;
   inside = tt;
 })
-
-pub forms_none : (s t : RecipeValue) (r : Result Lit FactorError) (x : Laid) → r ≡ Err NoMemory → Forms s t r x
-forms_none s t r x h = subst (λ (q : Result Lit FactorError). Forms s t q x) (sym h) (record { fits = λ k. absurd (false≢true k); full = λ k. absurd (no_memory k); steps = tt; root = tt; inside = tt })
 
 -- some steps, then those that read their root
 pub forms_after : (s t u : RecipeValue) (a : Lit) (r : Result Lit FactorError) (x : Laid) (y : ℕ → Lit → Laid)
@@ -180,9 +175,6 @@ forms_refused s t e r x y h first = subst (λ (q : Result Lit FactorError). Form
   root = tt;
   inside = tt;
 })
-
-pub forms_as : (s t : RecipeValue) (e : FactorError) (r : Result Lit FactorError) (x : Laid) → r ≡ Err e → Forms s t (Err e) x → Forms s t r x
-forms_as s t e r x h f = subst (λ (q : Result Lit FactorError). Forms s t q x) (sym h) f
 
 -- an error that a `?` handed on
 pub error_is : (r : Result Lit FactorError) (e : FactorError) → IsErr r → IsErrAnd r (λ f. f ≡ e) → r ≡ Err e

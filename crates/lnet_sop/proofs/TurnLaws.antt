@@ -118,10 +118,6 @@ same_literal : (b : Bool) → beq b b ≡ true
 same_literal true = refl
 same_literal false = refl
 
-other_literal : (b : Bool) → beq b (not b) ≡ false
-other_literal true = refl
-other_literal false = refl
-
 equal_literals : (p b : Bool) → beq p b ≡ true → p ≡ b
 equal_literals true true e = refl
 equal_literals true false e = absurd (false≢true e)

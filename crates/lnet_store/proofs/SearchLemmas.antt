@@ -50,15 +50,6 @@ true-within (b ∷ bs) zero e = omega arith
 true-within (b ∷ bs) (suc m) e = let h = true-within bs m e in omega arith
 
 module _ (marks : List Bool) (queue : List ℕ) (h : AreMarked marks queue) (n : ℕ) where
-  pub entered-old : get_or marks n false ≡ true → Enters queue queue (n ∷ [])
-  entered-old e = record {
-    grows = omega arith;
-    kept = λ i lt. refl;
-    old_in = λ m i. i;
-    added_in = λ m i. elim i as (λ _. In m queue) [ inl is ↦ subst (λ z. In z queue) (sym is) (h.listed n e) | inr j ↦ absurd j ];
-    from = λ m i. inl i;
-  }
-
   pub entered-new : Enters queue (queue ++ n ∷ []) (n ∷ [])
   entered-new = record {
     grows = (let e = length-append queue (n ∷ []) in omega arith);
@@ -110,9 +101,6 @@ read-taken m ss zero j = absurd j
 read-taken m [] (suc i) j = absurd j
 read-taken m (s ∷ ss) (suc i) (inl e) = inl e
 read-taken m (s ∷ ss) (suc i) (inr j) = inr (read-taken m ss i j)
-
-pub enters-none : (queue : List ℕ) → Enters queue queue []
-enters-none queue = record { grows = omega arith; kept = λ i lt. refl; old_in = λ m i. i; added_in = λ m i. absurd i; from = λ m i. inl i }
 
 pub enters-more : (q0 q1 q2 : List ℕ) (ss : List Signal) (i : ℕ) (d : Signal) → i < length ss → Enters q0 q1 (nodes_read (take i ss)) → Enters q1 q2 ((get_or ss i d).node.0 ∷ []) → Enters q0 q2 (nodes_read (take (i + 1) ss))
 enters-more q0 q1 q2 ss i d lt a b =

@@ -1,6 +1,5 @@
 -- A store's fields as its network.
 use Rattle.std.proofs.Common.{Result, Ok, Err, OnOk, Bool, ◌≤◌, get_or, ◌++◌, slice_index, cond, eqb, true, false, lit<, ◌≡◌, ℕ, zero, suc, ◌<◌, List, [], ◌∷◌, map, length, IsSome, IfSome, Option, None, Some, slice_get, inl, inr, refl, sym, ap, subst, ◌∙◌, arith}
-use Rattle.std.specs.Option.{option_map}
 use Rattle.std.specs.Ordering.{nat_cmp}
 use Rattle.std.specs.FinMap.{FinMap, get, len, insert, empty, get-empty}
 use Rattle.std.proofs.lemmas.Bool.Decides.{eqb_tells}
@@ -33,11 +32,6 @@ module _ (nodes : FinMap nat_cmp Entry) (inputs : List Node) (outputs : List Sig
   pub outputs-of : outputs ≡ N.outputs
   unfolding network_of
   outputs-of = ap (λ (M : NetworkValue). M.outputs) is
-
-pub read-map : (ns : List Node) (k : ℕ) → option_map (λ (n : Node). n.0) (slice_get ns k) ≡ slice_get (map (λ (n : Node). n.0) ns) k
-read-map [] k = refl
-read-map (n ∷ ns) zero = refl
-read-map (n ∷ ns) (suc k) = read-map ns k
 
 read-In : (os : List Signal) (k : ℕ) (s : Signal) → Some s ≡ slice_get os k → In s.node.0 (nodes_read os)
 read-In [] k s e = cc

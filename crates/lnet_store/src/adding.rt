@@ -10,7 +10,7 @@ ghost use Rattle.lnet_gates.specs.Plans.{Takes};
 ghost use Rattle.lnet_store.specs.StoreValues.{raised, with_input, with_new_output};
 
 use crate::counting::count_all;
-use crate::slots::{LIMIT, Slot};
+use crate::slots::{NUMBER_LIMIT, Slot};
 use crate::store::{AddError, Store};
 use lnet_gates::{Gate, Node, Signal};
 use std::alloc::AllocError;
@@ -84,11 +84,11 @@ impl Store {
     {
         let live = self.nodes.live();
         let room = self.nodes.room();
-        let wanted = numbers.min(LIMIT - live);
+        let wanted = numbers.min(NUMBER_LIMIT - live);
         if wanted <= room - live {
             return Ok(());
         }
-        self.grow((live + wanted).max(2 * room).min(LIMIT))
+        self.grow((live + wanted).max(2 * room).min(NUMBER_LIMIT))
     }
 
     /// Memory for one new node at least. Refused for want of it, there is memory for none.
@@ -125,7 +125,7 @@ impl Store {
         ensures full { (result ≡ Err AddError.Full) ↔ (live_count self.old.network ≡ NUMBERS) }
         ensures memory { result ≡ Err AddError.NoMemory → self.old.spare ≡ 0 }
     {
-        if self.nodes.live() == LIMIT {
+        if self.nodes.live() == NUMBER_LIMIT {
             return Err(AddError::Full);
         }
         match self.make_space() {

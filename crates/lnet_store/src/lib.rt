@@ -12,5 +12,6 @@ mod view;
 
 pub use lnet_model::{Cut, CutRule, Event, ViewKind, ViewSpec};
 pub use look::{Look, Parents, Visits};
+pub use slots::NUMBER_LIMIT;
 pub use store::{AddError, Store};
 pub use view::View;

@@ -11,8 +11,8 @@ use std::alloc::{AllocError, Global};
 use std::marker::Model;
 use std::mem;
 
-/// How many numbers a network can have.
-pub(crate) const LIMIT: u32 = 1_048_576;
+/// How many numbers a network can have: the constant, inputs and gates together.
+pub const NUMBER_LIMIT: u32 = 1_048_576;
 
 /// What stands at a live number.
 #[derive(Drop)]

@@ -44,13 +44,6 @@ chains-like heads next next' home home' C links long same = record {
   inside = λ n c e. let less = C.inside n c (sym (same n) ∙ e) in omega arith;
 }
 
--- chains without numbers
-pub no-chains : (heads next : List (Option ℕ)) (home : ℕ → Option ℕ) → ((c : ℕ) → link heads c ≡ None) → ((n : ℕ) → home n ≡ None) → AreChains heads next home
-no-chains heads next home empty idle = record {
-  chains = λ c h. record { members = []; linked = empty c; apart = tt; belongs = λ n i. absurd i; all = λ n e. absurd (not-some c (home n) (idle n) e) };
-  inside = λ n c e. absurd (not-some c (home n) (idle n) e);
-}
-
 -- n, which belonged nowhere, put at the head of chain c
 module _ (heads next : List (Option ℕ)) (home home' : ℕ → Option ℕ) (n c : ℕ) (C : AreChains heads next home) (long : n < length next) (low : c < length heads) (idle : home n ≡ None) (here : home' n ≡ Some c) (other : (m : ℕ) → m ≢ n → home' m ≡ home m) where
   -- n stands in no chain

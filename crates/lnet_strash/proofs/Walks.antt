@@ -1,5 +1,5 @@
 -- A walk along a chain in search of a key.
-use Rattle.std.proofs.Common.{◌≡◌, ℕ, zero, suc, ◌+◌, ◌<◌, ◌≤◌, Bool, true, false, ◌||◌, List, [], ◌∷◌, length, Option, None, Some, option_map, refl, sym, ap, subst, ◌∙◌, inl, inr, arith, eqb, true≢false}
+use Rattle.std.proofs.Common.{◌≡◌, ℕ, zero, suc, ◌+◌, ◌<◌, ◌≤◌, true, false, ◌||◌, List, [], ◌∷◌, length, Option, None, Some, refl, sym, ap, subst, ◌∙◌, inl, inr, arith, eqb, true≢false}
 use Rattle.std.specs.List.{list_any, IsDistinct, AllByRecursion}
 use Rattle.std.proofs.lemmas.Bool.Decides.{eqb_tells}
 use Rattle.std.proofs.lemmas.Map.Steps.{length-le_from_distinct_below}
@@ -58,22 +58,6 @@ pub record Walk (heads next : List (Option ℕ)) (t : Standing) (k : KeyValue) (
   pub after : IsLinkAfter heads next (home_of (length heads) t) (chain_of (length heads) k) before to
 
 module _ (heads next : List (Option ℕ)) (t : Standing) (k : KeyValue) (T : IsTable heads next t) where
-  at-home : (n : ℕ) → StandsUnder t n k → home_of (length heads) t n ≡ Some (chain_of (length heads) k)
-  at-home n s = ap (option_map (λ (e : KeyValue × Bool). chain_of (length heads) e.0)) s.1
-
-  -- a walk begins at the head of the key's chain
-  pub walk-begins : chain_of (length heads) k < length heads → (head : Option ℕ) → head ≡ link heads (chain_of (length heads) k) → Walk heads next t k None head
-  walk-begins low head e =
-      let c = T.chains.chains (chain_of (length heads) k) low in
-      record {
-        rest = c.members;
-        linked = subst (λ z. IsChain next z c.members) (sym e) c.linked;
-        apart = c.apart;
-        belongs = c.belongs;
-        all = λ n s. c.all n (at-home n s);
-        after = sym e;
-      }
-
   module _ (before to : Option ℕ) (W : Walk heads next t k before to) where
     -- a walk that ends has found nothing
     pub walk-ends : to ≡ None → IsAbsent t k

@@ -20,11 +20,6 @@ module _ {B : Type 0} (P : B → Type 0) where
   all-more [] x p h = (p, tt)
   all-more (y ∷ xs) x p h = (h.0, all-more xs x p h.1)
 
-  pub all-at : (xs : List B) (i : ℕ) (d : B) → i < length xs → AllByRecursion P xs → P (get_or xs i d)
-  all-at [] i d lt h = absurd (omega arith)
-  all-at (x ∷ xs) zero d lt h = h.0
-  all-at (x ∷ xs) (suc i) d lt h = all-at xs i d (omega arith) h.1
-
 module _ {B K : Type 0} (f : B → K) where
   pub map-without : (xs : List B) (i : ℕ) → map f (remove xs i) ≡ remove (map f xs) i
   map-without [] zero = refl

@@ -5,8 +5,6 @@ use Rattle.std.specs.Ordering.{nat_cmp}
 use Rattle.std.specs.FinMap.{FinMap, get, len, remove, entries, find, get-entries, len-entries, len-remove}
 use Rattle.lnet_gates.specs.declared.signal.Signal.{Signal}
 use Rattle.lnet_gates.specs.declared.gate.Kind.{Kind}
-use Rattle.lnet_gates.specs.declared.normal.Normal.{Normal}
-use Rattle.lnet_gates.specs.Gates.{GateValue}
 use Rattle.lnet_model.specs.Networks.{Constant, Input, IsGate, NetworkValue, entry_at, live_count, IsLive}
 use Rattle.lnet_model.specs.Dags.{numbers_of}
 use Rattle.lnet_model.proofs.Map.{tied, remove_here, remove_apart, len_positive}
@@ -46,7 +44,7 @@ len-fewer {X} (suc r) m n small kept =
     no_some : {o : Option X} → None ≡ o → IsSome o → ⊥
     no_some e h = let none : false ≡ true = subst IsSome (sym e) h in cc
 
-module _ (kind : Kind) (form : GateValue → Normal) (N : NetworkValue) (o : ℕ) (s : Signal) (can : CanSubstitute kind form N o s) (Q : NetworkValue) (h : Substitutes kind form N o s Q) where
+module _ (kind : Kind) (N : NetworkValue) (o : ℕ) (s : Signal) (can : CanSubstitute kind N o s) (Q : NetworkValue) (h : Substitutes kind N o s Q) where
   -- what is live afterwards was live, and isn't the gate that gave way
   pub live-old : (n : ℕ) → IsLive Q n → IsLive N n × (n ≢ o)
   live-old n live = elim (entry_at Q n) as (λ e. entry_at Q n ≡ e → IsSome e → IsLive N n × (n ≢ o)) [

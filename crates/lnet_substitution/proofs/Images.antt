@@ -7,7 +7,8 @@ use Rattle.lnet_gates.specs.declared.normal.Normal.TheVariants.{Is, Gate}
 use Rattle.lnet_gates.specs.Gates.{GateValue}
 use Rattle.lnet_gates.specs.Operands.{moved}
 use Rattle.lnet_gates.specs.Natives.{IsNativeGate}
-use Rattle.lnet_gates.specs.NormalLaws.{NormalLaws, replaced_in}
+use Rattle.lnet_gates.specs.NormalLaws.{replaced_in}
+use Rattle.lnet_gates.specs.Forms.{form_of}
 use Rattle.lnet_model.specs.Networks.{Entry, Constant, Input, IsGate, NetworkValue, entry_at, fanins_of, IsLive}
 use Rattle.lnet_model.specs.Along.{at_entry, In, Reaches, Acyclic, IsClosed, fanin_nodes, nodes_read}
 use Rattle.lnet_model.specs.Levels.{greatest, level_step, level}
@@ -74,7 +75,7 @@ leaf-reaches N n k leaf (m ∷ ns, w, e) = absurd (elim leaf as (λ _. ⊥) [
   | inr i ↦ subst (λ o. In m (fanin_nodes o)) i.1 w.1
 ])
 
-module _ (kind : Kind) (form : GateValue → Normal) (laws : NormalLaws (IsNativeGate kind) form) (P M : NetworkValue) (rep : ℕ → Signal) (cp : Acyclic P) (cm : Acyclic M) (closed : IsClosed M) (first : entry_at P 0 ≡ Some Constant) (leaves : SameLeaves M P) (native : (n : ℕ) (g : GateValue) → GateAt M n g → IsNativeGate kind g) (R : Represents form P M rep) where
+module _ (kind : Kind) (P M : NetworkValue) (rep : ℕ → Signal) (cp : Acyclic P) (cm : Acyclic M) (closed : IsClosed M) (first : entry_at P 0 ≡ Some Constant) (leaves : SameLeaves M P) (native : (n : ℕ) (g : GateValue) → GateAt M n g → IsNativeGate kind g) (R : Represents kind P M rep) where
   leaf_of : (n : ℕ) → IsLeafAt M n → IsLeafAt P n
   leaf_of n (inl c) = inl ((leaves.constant n).0 c)
   leaf_of n (inr k) = inr (k.0, (leaves.input n k.0).0 k.1)
@@ -94,10 +95,10 @@ module _ (kind : Kind) (form : GateValue → Normal) (laws : NormalLaws (IsNativ
   abbrev Standing : GateValue → Signal → Type 0
   Standing g t = Below g t.node.0 ⊎ ((j : GateValue) × GateAt P t.node.0 j × ((l : ℕ) → In l (nodes_read j.fanins) → Below g l))
 
-  standing : (g : GateValue) (f : Normal) (t : Signal) → IsNativeGate kind g → form (replaced_in rep g) ≡ f → StandsFor P f t → Standing g t
-  standing g (Is s) t nat is h = inl (subst (λ (z : Signal). Below g z.node.0) h (below g s.node.0 (form-signal kind form laws (replaced_in rep g) s (native-again kind rep g nat) is)))
+  standing : (g : GateValue) (f : Normal) (t : Signal) → IsNativeGate kind g → form_of kind (replaced_in rep g) ≡ f → StandsFor P f t → Standing g t
+  standing g (Is s) t nat is h = inl (subst (λ (z : Signal). Below g z.node.0) h (below g s.node.0 (form-signal kind (replaced_in rep g) s (native-again kind rep g nat) is)))
   standing g (Gate k phase) t nat is (j, at, key, phases) =
-      inr (j, at, λ l i. below g l (form-key kind form laws (replaced_in rep g) k phase l (native-again kind rep g nat) is (subst (λ z. In l (nodes_read z.fanins)) (sym key) i)))
+      inr (j, at, λ l i. below g l (form-key kind (replaced_in rep g) k phase l (native-again kind rep g nat) is (subst (λ z. In l (nodes_read z.fanins)) (sym key) i)))
 
   -- a gate that a representative reaches represents a gate that the node reaches
   abbrev Image : ℕ → ℕ → Type 0
@@ -117,7 +118,7 @@ module _ (kind : Kind) (form : GateValue → Normal) (laws : NormalLaws (IsNativ
 
   image-gate : (n : ℕ) (g : GateValue) → GateAt M n g → ((m : ℕ) → In m (nodes_read g.fanins) → HasImages m) → HasImages n
   image-gate n g at up k r gate =
-      elim (standing g (form (replaced_in rep g)) (rep n) (native n g at) refl (R.gate n g at)) as (λ _. Image n k) [
+      elim (standing g (form_of kind (replaced_in rep g)) (rep n) (native n g at) refl (R.gate n g at)) as (λ _. Image n k) [
         | inl b ↦ image-below n g at up (rep n).node.0 k b r gate
         | inr q ↦ by_walk q r
       ]
@@ -155,7 +156,7 @@ module _ (kind : Kind) (form : GateValue → Normal) (laws : NormalLaws (IsNativ
 
   low-gate : (n : ℕ) (g : GateValue) → GateAt M n g → ((m : ℕ) → In m (nodes_read g.fanins) → IsLow m) → IsLow n
   low-gate n g at up =
-      elim (standing g (form (replaced_in rep g)) (rep n) (native n g at) refl (R.gate n g at)) as (λ _. IsLow n) [
+      elim (standing g (form_of kind (replaced_in rep g)) (rep n) (native n g at) refl (R.gate n g at)) as (λ _. IsLow n) [
         | inl b ↦ (let less = low-below n g at up (rep n).node.0 b in omega arith)
         | inr q ↦ level-at-most P (rep n).node.0 q.0 (level M n) cp q.1 (gate-level-some M n g cm at) (λ l i. low-below n g at up l (q.2 l i))
       ]

@@ -2,10 +2,7 @@
 use Rattle.std.proofs.Common.{◌≡◌, ◌≢◌, ℕ, ◌<◌, ◌≤◌, ◌⊎◌, List, [], ◌∷◌, map, None, Some, refl, sym, ap, subst, ◌∙◌, inl, inr, arith}
 use Rattle.lnet_gates.specs.declared.signal.Signal.{Signal}
 use Rattle.lnet_gates.specs.declared.gate.Kind.{Kind}
-use Rattle.lnet_gates.specs.declared.normal.Normal.{Normal}
 use Rattle.lnet_gates.specs.Gates.{GateValue}
-use Rattle.lnet_gates.specs.Natives.{IsNativeGate}
-use Rattle.lnet_gates.specs.NormalLaws.{NormalLaws}
 use Rattle.lnet_model.specs.Networks.{Constant, Input, IsGate, NetworkValue, entry_at, IsLive}
 use Rattle.lnet_model.specs.Along.{In, Reaches, Acyclic, nodes_read}
 use Rattle.lnet_model.specs.Levels.{greatest, level_step, level, depth}
@@ -33,19 +30,19 @@ at-greatest V m [] i = absurd i
 at-greatest V m (l ∷ ls) (inl e) = let same = ap V e in omega arith
 at-greatest V m (l ∷ ls) (inr i) = let rest = at-greatest V m ls i in omega arith
 
-module _ (kind : Kind) (form : GateValue → Normal) (laws : NormalLaws (IsNativeGate kind) form) (N : NetworkValue) (o : ℕ) (s : Signal) (can : CanSubstitute kind form N o s) where
+module _ (kind : Kind) (N : NetworkValue) (o : ℕ) (s : Signal) (can : CanSubstitute kind N o s) where
   abbrev M : NetworkValue
   M = replaced N o s
 
   cm : Acyclic (replaced N o s)
-  cm = replaced-is-Acyclic kind form laws N o s can
+  cm = replaced-is-Acyclic kind N o s can
 
   -- ---- the replacement alone
 
   module _ (low : level N s.node.0 ≤ level N o) where
     low-fanin : (n : ℕ) (h : GateValue) → GateAt N n h → (m : ℕ) → In m (nodes_read (redirected_gate o s h).fanins) → (m ≢ o → level M m ≤ level N m) → level M m < level N n
     low-fanin n h at m i up =
-        let mine = up (not_redirected o m s h.fanins (target-apart kind form laws N o s can) i) in
+        let mine = up (not_redirected o m s h.fanins (target-apart kind N o s can) i) in
         elim (in_redirected o m s h.fanins i) as (λ _. level M m < level N n) [
           | inl j ↦ (let falls = level-falls N can.acyclic n m (gate-fanin N n m h at j) in omega arith)
           | inr p ↦
@@ -70,7 +67,7 @@ module _ (kind : Kind) (form : GateValue → Normal) (laws : NormalLaws (IsNativ
 
   -- ---- a whole substitution
 
-  module _ (Q : NetworkValue) (h : Substitutes kind form N o s Q) where
+  module _ (Q : NetworkValue) (h : Substitutes kind N o s Q) where
     abbrev P : NetworkValue
     P = h.merged
 
@@ -93,10 +90,10 @@ module _ (kind : Kind) (form : GateValue → Normal) (laws : NormalLaws (IsNativ
     -- what an output reaches is the representative of a gate that an output reached
     pub substituted-images : (n : ℕ) → IsGateAt Q n → IsReached Q n → (m : ℕ) × IsReached (replaced N o s) m × IsGateAt (replaced N o s) m × ((h.rep m).node.0 ≡ n)
     substituted-images n gate (k, i, r) =
-        let whole = replaced-is-IsWhole kind form laws N o s can in
+        let whole = replaced-is-IsWhole kind N o s can in
         let q = named-moved h.rep k M.outputs (subst (λ ss. In k (nodes_read ss)) (h.drops.outputs ∙ h.merges.outputs) i) in
         let before = reaches-before N P Q h.merges.acyclic h.merges.whole h.drops k n r in
-        let image = images kind form laws P M h.rep h.merges.acyclic cm whole.closed h.merges.whole.first leaves (replaced-natives kind form laws N o s can) h.merges.nodes
+        let image = images kind P M h.rep h.merges.acyclic cm whole.closed h.merges.whole.first leaves (replaced-natives kind N o s can) h.merges.nodes
         q.0 (whole.outputs_live q.0 q.1) n (subst (λ z. Reaches P z n) q.2 before) (gate.0, (h.drops.gates n gate.0 gate.1).0) in
         (image.0, (q.0, q.1, image.1), image.2, image.3)
 
@@ -104,7 +101,7 @@ module _ (kind : Kind) (form : GateValue → Normal) (laws : NormalLaws (IsNativ
     pub substituted-low : (n : ℕ) → IsLive (replaced N o s) n → level Q (h.rep n).node.0 ≤ level (replaced N o s) n
     substituted-low n live =
         let kept = level-dropped (h.rep n).node.0 in
-        let low = represented-low kind form laws P M h.rep h.merges.acyclic cm (replaced-is-IsWhole kind form laws N o s can).closed h.merges.whole.first leaves (replaced-natives kind form laws N o s can) h.merges.nodes n live in
+        let low = represented-low kind P M h.rep h.merges.acyclic cm (replaced-is-IsWhole kind N o s can).closed h.merges.whole.first leaves (replaced-natives kind N o s can) h.merges.nodes n live in
         omega arith
 
     -- no gate's level rises
@@ -119,11 +116,11 @@ module _ (kind : Kind) (form : GateValue → Normal) (laws : NormalLaws (IsNativ
 
     output-low : level N s.node.0 ≤ level N o → (k : ℕ) → In k (nodes_read Q.outputs) → level Q k ≤ greatest (map (level N) (nodes_read N.outputs)) ⊎ (In o (nodes_read N.outputs) × (level Q k ≤ level N o))
     output-low le k i =
-        let whole = replaced-is-IsWhole kind form laws N o s can in
+        let whole = replaced-is-IsWhole kind N o s can in
         let q = named-moved h.rep k M.outputs (subst (λ ss. In k (nodes_read ss)) (h.drops.outputs ∙ h.merges.outputs) i) in
         let j = subst (λ ss. In q.0 (nodes_read ss)) (replaced-outputs N o s) q.1 in
         let mine = substituted-low q.0 (whole.outputs_live q.0 q.1) in
-        let rest = replaced-low le q.0 (not_redirected o q.0 s N.outputs (target-apart kind form laws N o s can) j) in
+        let rest = replaced-low le q.0 (not_redirected o q.0 s N.outputs (target-apart kind N o s can) j) in
         let same = ap (level Q) q.2 in
         elim (in_redirected o q.0 s N.outputs j) as (λ _. (level Q k ≤ greatest (map (level N) (nodes_read N.outputs))) ⊎ (In o (nodes_read N.outputs) × (level Q k ≤ level N o))) [
           | inl old ↦ inl (let most = at-greatest (level N) q.0 (nodes_read N.outputs) old in omega arith)

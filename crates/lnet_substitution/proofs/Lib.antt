@@ -13,3 +13,4 @@ pub mod Levels
 pub mod OtherKinds
 pub mod Fewer
 pub mod Onto
+pub mod WorkedSubstitution

@@ -3,13 +3,14 @@ use Rattle.std.proofs.Common.{◌≡◌, ◌≢◌, ℕ, Bool, true, false, ◌�
 use Rattle.lnet_gates.specs.declared.signal.Signal.{Signal}
 use Rattle.lnet_gates.specs.declared.gate.Kind.{Kind}
 use Rattle.lnet_gates.specs.declared.gate.Op.TheVariants.{And}
-use Rattle.lnet_gates.specs.declared.normal.Normal.{Normal}
 use Rattle.lnet_gates.specs.declared.normal.Normal.TheVariants.{Is, Gate}
 use Rattle.lnet_gates.specs.Gates.{GateValue, KeyValue, flip}
 use Rattle.lnet_gates.specs.Operands.{IsNamedBy}
 use Rattle.lnet_gates.specs.Natives.{IsNativeGate}
 use Rattle.lnet_gates.specs.NormalForms.{carried}
-use Rattle.lnet_gates.specs.NormalLaws.{NormalLaws, NamesOnly}
+use Rattle.lnet_gates.specs.NormalLaws.{NamesOnly}
+use Rattle.lnet_gates.specs.Forms.{form_of}
+use Rattle.lnet_gates.specs.Lawful.KindLaws.{kind_laws}
 use Rattle.lnet_model.specs.Networks.{NetworkValue, entry_at, IsLive}
 use Rattle.lnet_model.specs.Along.{In, Depends, Reaches, Acyclic, IsWhole, fanin_nodes, nodes_read}
 use Rattle.lnet_model.specs.Changes.{GateAt}
@@ -44,14 +45,14 @@ named-or-zero : (n : ℕ) (ss : List Signal) → IsNamedBy n ss ⊎ (n ≡ 0) �
 named-or-zero n ss (inl h) = inl (named n ss h)
 named-or-zero n ss (inr z) = inr z
 
-module _ (kind : Kind) (form : GateValue → Normal) (laws : NormalLaws (IsNativeGate kind) form) where
+module _ (kind : Kind) where
   -- a signal that is the form reads a fanin's node, or the constant
-  pub form-signal : (g : GateValue) (s : Signal) → IsNativeGate kind g → form g ≡ Is s → In s.node.0 (nodes_read g.fanins) ⊎ (s.node.0 ≡ 0)
-  form-signal g s native is = named-or-zero s.node.0 g.fanins (subst (NamesOnly g.fanins) is (laws.names g native))
+  pub form-signal : (g : GateValue) (s : Signal) → IsNativeGate kind g → form_of kind g ≡ Is s → In s.node.0 (nodes_read g.fanins) ⊎ (s.node.0 ≡ 0)
+  form-signal g s native is = named-or-zero s.node.0 g.fanins (subst (NamesOnly g.fanins) is ((kind_laws kind).names g native))
 
   -- a key of the form reads the fanins' nodes, or the constant
-  pub form-key : (g : GateValue) (k : KeyValue) (phase : Bool) (m : ℕ) → IsNativeGate kind g → form g ≡ Gate k phase → In m (nodes_read k.fanins) → In m (nodes_read g.fanins) ⊎ (m ≡ 0)
-  form-key g k phase m native is i = let names : NamesOnly g.fanins (Gate k phase) = subst (NamesOnly g.fanins) is (laws.names g native) in named-or-zero m g.fanins (names m (naming m k.fanins i))
+  pub form-key : (g : GateValue) (k : KeyValue) (phase : Bool) (m : ℕ) → IsNativeGate kind g → form_of kind g ≡ Gate k phase → In m (nodes_read k.fanins) → In m (nodes_read g.fanins) ⊎ (m ≡ 0)
+  form-key g k phase m native is i = let names : NamesOnly g.fanins (Gate k phase) = subst (NamesOnly g.fanins) is ((kind_laws kind).names g native) in named-or-zero m g.fanins (names m (naming m k.fanins i))
 
   -- with its fanins redirected a gate is native as it was
   pub native-redirected : (x : ℕ) (t : Signal) (g : GateValue) → IsNativeGate kind g → IsNativeGate kind (redirected_gate x t g)
@@ -72,13 +73,13 @@ module _ (kind : Kind) (form : GateValue → Normal) (laws : NormalLaws (IsNativ
     no_way_back m (inr z) ([], w, e) = gate-apart-zero C x gx at_x whole (sym e ∙ z)
     no_way_back m (inr z) (k ∷ ns, w, e) = subst (λ o. In k (fanin_nodes o)) (ap (entry_at C) z ∙ whole.first) w.1
 
-    pub merge-free : (t : Signal) → t.node.0 ≢ x → CanMerge form C gx t → Depends C t x → ⊥
+    pub merge-free : (t : Signal) → t.node.0 ≢ x → CanMerge kind C gx t → Depends C t x → ⊥
     merge-free t ne (inl is) d = no_way_back t.node.0 (form-signal gx t native is) d
     merge-free t ne (inr q) ([], w, e) = ne e
     merge-free t ne (inr q) (m ∷ ns, w, e) =
         no_way_back m (form-key gx (key_of q.0) (flip t.complement q.0.phase) m native (q.2 ∙ ap (carried t.complement) q.3) (subst (λ o. In m (fanin_nodes o)) q.1 w.1)) (ns, w.2, e)
 
-  module _ (N : NetworkValue) (o : ℕ) (s : Signal) (go : GateValue) (at_o : GateAt N o go) (acyclic : Acyclic N) (strashed : IsStrashed kind form N) (whole : IsWhole N) (free : Depends N s o → ⊥) (live_s : IsLive N s.node.0) where
+  module _ (N : NetworkValue) (o : ℕ) (s : Signal) (go : GateValue) (at_o : GateAt N o go) (acyclic : Acyclic N) (strashed : IsStrashed kind N) (whole : IsWhole N) (free : Depends N s o → ⊥) (live_s : IsLive N s.node.0) where
     s_apart : s.node.0 ≢ o
     s_apart e = free ([], live_s, e)
 
@@ -86,13 +87,13 @@ module _ (kind : Kind) (form : GateValue → Normal) (laws : NormalLaws (IsNativ
     parent_reaches n i = (o ∷ [], (live_parent (entry_at N) n o i, i, gate-live N o go at_o), refl)
 
     -- the first replacement
-    pub cascade-begins : (dirty : ℕ → Bool) → ((n : ℕ) → dirty n ≡ true → In o (fanin_nodes (entry_at N n))) → ((n : ℕ) → In o (fanin_nodes (entry_at N n)) → dirty n ≡ true) → IsCascading kind form N o s (replaced N o s) signal_of dirty
+    pub cascade-begins : (dirty : ℕ → Bool) → ((n : ℕ) → dirty n ≡ true → In o (fanin_nodes (entry_at N n))) → ((n : ℕ) → In o (fanin_nodes (entry_at N n)) → dirty n ≡ true) → IsCascading kind N o s (replaced N o s) signal_of dirty
     cascade-begins dirty down up =
         let was : (n : ℕ) (g : GateValue) → GateAt (replaced N o s) n g → dirty n ≡ false → GateAt N n g = λ n g at c. gate-was N o s go at_o n g at (λ i. not-both (dirty n) c (up n i)) in
         record {
           leaves = leaves-replaced N o s go at_o;
           leaf = λ _ _. refl;
-          gate = resolves-start form (replaced N o s);
+          gate = resolves-start kind (replaced N o s);
           outputs = sym (map-signal_of (replaced N o s).outputs);
           own = λ n g at. (let r = replaced-gate N o s go at_o n g at in (r.3, (r.0, r.1), refl));
           kept = λ n g at none. gate-stays N o s go at_o n g at (λ e. none ([], gate-live N n g at, e)) (λ i. none (parent_reaches n (gate-fanin N n o g at i)));
@@ -105,7 +106,7 @@ module _ (kind : Kind) (form : GateValue → Normal) (laws : NormalLaws (IsNativ
           whole = whole-replaced N o s go at_o whole s_apart live_s;
         }
 
-  module _ (N : NetworkValue) (o : ℕ) (s : Signal) (go : GateValue) (at_o : GateAt N o go) (native_N : (n : ℕ) (g : GateValue) → GateAt N n g → IsNativeGate kind g) (C : NetworkValue) (rep : ℕ → Signal) (dirty : ℕ → Bool) (I : IsCascading kind form N o s C rep dirty) (x : ℕ) (gx : GateValue) (at_x : GateAt C x gx) (x_dirty : dirty x ≡ true) where
+  module _ (N : NetworkValue) (o : ℕ) (s : Signal) (go : GateValue) (at_o : GateAt N o go) (native_N : (n : ℕ) (g : GateValue) → GateAt N n g → IsNativeGate kind g) (C : NetworkValue) (rep : ℕ → Signal) (dirty : ℕ → Bool) (I : IsCascading kind N o s C rep dirty) (x : ℕ) (gx : GateValue) (at_x : GateAt C x gx) (x_dirty : dirty x ≡ true) where
     -- what doesn't depend on o has no late fanin
     early_fanin : (n : ℕ) (g : GateValue) → GateAt N n g → (Reaches N n o → ⊥) → In x (nodes_read g.fanins) → ⊥
     early_fanin n g at none i = I.late x x_dirty (λ d. none (reaches-up N n x o (gate-fanin N n x g at i) d))
@@ -123,16 +124,16 @@ module _ (kind : Kind) (form : GateValue → Normal) (laws : NormalLaws (IsNativ
         let at : GateAt (replaced N o s) n g = ap (entry_at (replaced N o s)) e ∙ gate-after N o s go at_o x r.1.0 r.1.1 r.0 in
         elim h as (λ _. ⊥) [ inl c ↦ not_constant g (sym at ∙ c) | inr k ↦ not_input g k.0 (sym at ∙ k.1) ]
 
-    pub cascade-merge : (t : Signal) (later : ℕ → Bool) → t.node.0 ≢ x → IsLive C t.node.0 → CanMerge form C gx t → IsDirtyAfter C x dirty later → IsCascading kind form N o s (replaced C x t) (λ n. redirected x t (rep n)) later
+    pub cascade-merge : (t : Signal) (later : ℕ → Bool) → t.node.0 ≢ x → IsLive C t.node.0 → CanMerge kind C gx t → IsDirtyAfter C x dirty later → IsCascading kind N o s (replaced C x t) (λ n. redirected x t (rep n)) later
     cascade-merge t later ne live joins after =
-        let resolves : ResolvesTo form C (form gx) t = elim joins as (λ _. ResolvesTo form C (form gx) t) [ inl is ↦ inl is | inr q ↦ inr (q.0, q.1, q.2) ] in
+        let resolves : ResolvesTo kind C (form_of kind gx) t = elim joins as (λ _. ResolvesTo kind C (form_of kind gx) t) [ inl is ↦ inl is | inr q ↦ inr (q.0, q.1, q.2) ] in
         let clean_before : (n : ℕ) → n ≢ x → later n ≡ false → dirty n ≡ false = λ n ne c. is-false (dirty n) (λ d. not-both (later n) c (after.before n d ne)) in
         let was : (n : ℕ) (g : GateValue) → GateAt (replaced C x t) n g → later n ≡ false → GateAt C n g = λ n g at c. gate-was C x t gx at_x n g at (λ i. not-both (later n) c (after.parents n i)) in
         let x_apart : (n : ℕ) (g : GateValue) → GateAt (replaced C x t) n g → n ≢ x = λ n g at. (replaced-gate C x t gx at_x n g at).3 in
         record {
           leaves = leaves-twice N C (replaced C x t) I.leaves (leaves-replaced C x t gx at_x);
           leaf = λ n h. ap (redirected x t) (I.leaf n h) ∙ redirected-apart x t (signal_of n) (leaf_apart n h);
-          gate = λ n g at. resolves-merge kind form laws C x t gx at_x (gate-apart-zero C x gx at_x I.whole) ne I.native resolves rep n g (natives-replaced N o s go at_o native_N n g at) (I.gate n g at);
+          gate = λ n g at. resolves-merge kind C x t gx at_x (gate-apart-zero C x gx at_x I.whole) ne I.native resolves rep n g (natives-replaced N o s go at_o native_N n g at) (I.gate n g at);
           outputs = replaced-outputs C x t ∙ ap (map (redirected x t)) I.outputs ∙ sym (map-moved x t rep (replaced N o s).outputs);
           own = λ n g at. (let r = replaced-gate C x t gx at_x n g at in let q = I.own n r.0 r.1 in (q.0, q.1, ap (redirected x t) q.2 ∙ redirected-apart x t (signal_of n) r.3));
           kept = λ n g at none. gate-stays C x t gx at_x n g (I.kept n g at none) (λ e. I.late x x_dirty (subst (λ z. Reaches N z o → ⊥) e none)) (early_fanin n g at none);

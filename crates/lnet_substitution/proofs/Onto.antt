@@ -6,10 +6,7 @@ use Rattle.std.specs.Ordering.{nat_cmp}
 use Rattle.std.specs.FinMap.{FinMap, get, len, remove, len-remove}
 use Rattle.lnet_gates.specs.declared.signal.Signal.{Signal}
 use Rattle.lnet_gates.specs.declared.gate.Kind.{Kind}
-use Rattle.lnet_gates.specs.declared.normal.Normal.{Normal}
 use Rattle.lnet_gates.specs.Gates.{GateValue}
-use Rattle.lnet_gates.specs.Natives.{IsNativeGate}
-use Rattle.lnet_gates.specs.NormalLaws.{NormalLaws}
 use Rattle.lnet_model.specs.Networks.{Constant, Input, IsGate, NetworkValue, entry_at, live_count, IsLive}
 use Rattle.lnet_model.specs.Changes.{GateAt}
 use Rattle.lnet_model.specs.Dags.{numbers_of}
@@ -67,7 +64,7 @@ len-onto f (suc r) a b h =
           stable (len a) (len b) (λ not. h.onto r here (λ p. not (len-less r p.0 a b here p.1 (len-onto f r (remove a r) (remove b p.0) (onto-less f r p.0 a b h p.2)))))
     ] refl
 
-module _ (kind : Kind) (form : GateValue → Normal) (laws : NormalLaws (IsNativeGate kind) form) (N : NetworkValue) (o : ℕ) (s : Signal) (can : CanSubstitute kind form N o s) (Q : NetworkValue) (h : Substitutes kind form N o s Q) (Q2 M2 : NetworkValue) (swept : IsSwept Q Q2) (clean : IsSwept (replaced N o s) M2) where
+module _ (kind : Kind) (N : NetworkValue) (o : ℕ) (s : Signal) (can : CanSubstitute kind N o s) (Q : NetworkValue) (h : Substitutes kind N o s Q) (Q2 M2 : NetworkValue) (swept : IsSwept Q Q2) (clean : IsSwept (replaced N o s) M2) where
   abbrev M : NetworkValue
   M = replaced N o s
 
@@ -98,7 +95,7 @@ module _ (kind : Kind) (form : GateValue → Normal) (laws : NormalLaws (IsNativ
 
   gate-image : (n : ℕ) (g : GateValue) → GateAt Q n g → IsReached Q n → HasImage n
   gate-image n g at reached =
-      let r = substituted-images kind form laws N o s can Q h n (g, at) reached in
+      let r = substituted-images kind N o s can Q h n (g, at) reached in
       (r.0, subst IsSome (sym (clean.trimmed.reached r.0 r.1)) (gate-live M r.0 r.2.0 r.2.1), r.3)
 
   onto : (n : ℕ) → IsLive Q2 n → (HasImage n → ⊥) → ⊥

@@ -2,8 +2,6 @@
 use Rattle.std.proofs.Common.{ℕ, refl}
 use Rattle.lnet_gates.specs.declared.signal.Signal.{Signal}
 use Rattle.lnet_gates.specs.declared.gate.Kind.{Kind}
-use Rattle.lnet_gates.specs.declared.normal.Normal.{Normal}
-use Rattle.lnet_gates.specs.Gates.{GateValue}
 use Rattle.lnet_model.specs.Networks.{NetworkValue, entry_at}
 use Rattle.lnet_hashed.specs.Strashed.{of_kind}
 use Rattle.lnet_substitution.specs.Replaced.{replaced}
@@ -13,9 +11,9 @@ leaves-of_kind : (kind : Kind) (N P : NetworkValue) → SameLeaves N P → SameL
 unfolding entry_at
 leaves-of_kind kind N P h = record { kind = refl; inputs = h.inputs; constant = h.constant; input = h.input }
 
-merges-of_kind : (other kind : Kind) (form : GateValue → Normal) (N : NetworkValue) (o : ℕ) (s : Signal) (P : NetworkValue) (rep : ℕ → Signal) → IsMerged kind form N o s P rep → IsMerged kind form (of_kind other N) o s (of_kind other P) rep
+merges-of_kind : (other kind : Kind) (N : NetworkValue) (o : ℕ) (s : Signal) (P : NetworkValue) (rep : ℕ → Signal) → IsMerged kind N o s P rep → IsMerged kind (of_kind other N) o s (of_kind other P) rep
 unfolding entry_at replaced
-merges-of_kind other kind form N o s P rep h = record {
+merges-of_kind other kind N o s P rep h = record {
   leaves = leaves-of_kind other N P h.leaves;
   nodes = record { leaf = h.nodes.leaf; gate = h.nodes.gate };
   outputs = h.outputs;
@@ -31,10 +29,10 @@ unfolding entry_at
 drops-of_kind other N P Q h = record { leaves = leaves-of_kind other P Q h.leaves; outputs = h.outputs; gates = h.gates; stay = h.stay }
 
 -- what a substitution leaves, with another kind beside both networks
-pub substitutes-of_kind : (other kind : Kind) (form : GateValue → Normal) (N : NetworkValue) (o : ℕ) (s : Signal) (Q : NetworkValue) → Substitutes kind form N o s Q → Substitutes kind form (of_kind other N) o s (of_kind other Q)
-substitutes-of_kind other kind form N o s Q h = record {
+pub substitutes-of_kind : (other kind : Kind) (N : NetworkValue) (o : ℕ) (s : Signal) (Q : NetworkValue) → Substitutes kind N o s Q → Substitutes kind (of_kind other N) o s (of_kind other Q)
+substitutes-of_kind other kind N o s Q h = record {
   merged = of_kind other h.merged;
   rep = h.rep;
-  merges = merges-of_kind other kind form N o s h.merged h.rep h.merges;
+  merges = merges-of_kind other kind N o s h.merged h.rep h.merges;
   drops = drops-of_kind other N h.merged Q h.drops;
 }

@@ -89,9 +89,6 @@ module _ (N : NetworkValue) (o : ℕ) (s : Signal) (live : IsLive N o) where
 
 -- ---- what stands in it stood before
 
-none_some : {A P : Type 0} (x : A) → None ≡ Some x → P
-none_some x e = cc
-
 pub some_mapped : {A B : Type 0} (f : A → B) (o : Option A) (y : B) → option_map f o ≡ Some y → (x : A) × (o ≡ Some x) × (f x ≡ y)
 some_mapped f None y e = cc
 some_mapped f (Some x) y e = (x, refl, (let same : f x ≡ y = cc in same))

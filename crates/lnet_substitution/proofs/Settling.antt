@@ -8,7 +8,10 @@ use Rattle.lnet_gates.specs.declared.normal.Normal.TheVariants.{Gate}
 use Rattle.lnet_gates.specs.Gates.{GateValue, KeyValue}
 use Rattle.lnet_gates.specs.Natives.{IsNativeGate}
 use Rattle.lnet_gates.specs.NormalForms.{carried}
-use Rattle.lnet_gates.specs.NormalLaws.{NormalLaws, AndsKeepPhase, IsNativeForm, keyed_gate}
+use Rattle.lnet_gates.specs.NormalLaws.{IsNativeForm, keyed_gate}
+use Rattle.lnet_gates.specs.Forms.{form_of}
+use Rattle.lnet_gates.specs.Lawful.KindLaws.{kind_laws}
+use Rattle.lnet_gates.specs.Lawful.AndPhases.{kind_phases}
 use Rattle.lnet_model.specs.Networks.{IsGate, NetworkValue, entry_at}
 use Rattle.lnet_model.specs.Along.{In, Reaches, nodes_read}
 use Rattle.lnet_model.specs.Changes.{GateAt, IsGateAt, with_entry}
@@ -23,22 +26,22 @@ use Rattle.lnet_substitution.proofs.OneReplaced.{leaves-twice}
 use Rattle.lnet_substitution.proofs.OneSet.{with_entry-outputs, here-set, leaves-set, acyclic-set, whole-set}
 use Rattle.lnet_substitution.proofs.Merging.{is-false, not-both, form-key}
 
-module _ (kind : Kind) (form : GateValue → Normal) (laws : NormalLaws (IsNativeGate kind) form) (and_law : AndsKeepPhase (IsNativeGate kind) form) where
-  module _ (N : NetworkValue) (o : ℕ) (s : Signal) (C : NetworkValue) (rep : ℕ → Signal) (dirty : ℕ → Bool) (I : IsCascading kind form N o s C rep dirty) (x : ℕ) (gx : GateValue) (at_x : GateAt C x gx) (x_dirty : dirty x ≡ true) where
-    pub cascade-settle : (k : KeyValue) (phase : Bool) (later : ℕ → Bool) → form gx ≡ Gate k phase → IsUnusedKey C dirty k → IsCleanAfter x dirty later → IsCascading kind form N o s (with_entry C x (IsGate (keyed_gate k phase))) rep later
+module _ (kind : Kind) where
+  module _ (N : NetworkValue) (o : ℕ) (s : Signal) (C : NetworkValue) (rep : ℕ → Signal) (dirty : ℕ → Bool) (I : IsCascading kind N o s C rep dirty) (x : ℕ) (gx : GateValue) (at_x : GateAt C x gx) (x_dirty : dirty x ≡ true) where
+    pub cascade-settle : (k : KeyValue) (phase : Bool) (later : ℕ → Bool) → form_of kind gx ≡ Gate k phase → IsUnusedKey C dirty k → IsCleanAfter x dirty later → IsCascading kind N o s (with_entry C x (IsGate (keyed_gate k phase))) rep later
     cascade-settle k phase later is_key unused after =
         let g = keyed_gate k phase in
         let native_x = I.native x gx at_x in
-        let fewer : (m : ℕ) → In m (nodes_read g.fanins) → In m (nodes_read gx.fanins) ⊎ (m ≡ 0) = λ m i. form-key kind form laws gx k phase m native_x is_key i in
+        let fewer : (m : ℕ) → In m (nodes_read g.fanins) → In m (nodes_read gx.fanins) ⊎ (m ≡ 0) = λ m i. form-key kind gx k phase m native_x is_key i in
         let A = with_entry C x (IsGate g) in
         let here : (n : ℕ) (h : GateValue) → GateAt A n h → n ≡ x → h ≡ g = λ n h at e. same-gates (sym at ∙ here-set C x gx g at_x n e) in
         let before : (n : ℕ) (h : GateValue) → GateAt A n h → n ≢ x → GateAt C n h = λ n h at ne. sym (with_entry-apart C x (IsGate g) n ne) ∙ at in
         let clean : (n : ℕ) → n ≢ x → later n ≡ false → dirty n ≡ false = λ n ne c. is-false (dirty n) (λ d. not-both (later n) c (after.before n d ne)) in
-        let native_g : IsNativeGate kind g = subst (IsNativeForm (IsNativeGate kind)) is_key (laws.native gx native_x) in
+        let native_g : IsNativeGate kind g = subst (IsNativeForm (IsNativeGate kind)) is_key ((kind_laws kind).native gx native_x) in
         record {
           leaves = leaves-twice N C A I.leaves (leaves-set C x gx g at_x);
           leaf = I.leaf;
-          gate = λ n h at. resolves-settle kind form laws C x gx k phase at_x native_x is_key _ (rep n) (I.gate n h at);
+          gate = λ n h at. resolves-settle kind C x gx k phase at_x native_x is_key _ (rep n) (I.gate n h at);
           outputs = with_entry-outputs C x (IsGate g) ∙ I.outputs;
           own = λ n h at. elim (eqb_tells n x) as (λ _. (n ≢ o) × IsGateAt N n × (rep n ≡ signal_of n)) [
             | inl p ↦ I.own n gx (ap (entry_at C) p.1 ∙ at_x)
@@ -52,12 +55,12 @@ module _ (kind : Kind) (form : GateValue → Normal) (laws : NormalLaws (IsNativ
           ];
           and_phase = λ n h at is_and. elim (eqb_tells n x) as (λ _. h.phase ≡ false) [
             | inl p ↦
-                let q = and_law gx k phase native_x is_key (sym (ap (λ (h : GateValue). h.op) (here n h at p.1)) ∙ is_and) in
+                let q = kind_phases kind gx k phase native_x is_key (sym (ap (λ (h : GateValue). h.op) (here n h at p.1)) ∙ is_and) in
                 ap (λ (h : GateValue). h.phase) (here n h at p.1) ∙ q.1 ∙ I.and_phase x gx at_x q.0
             | inr p ↦ I.and_phase n h (before n h at p.1) is_and
           ];
-          own_form = λ n h at c. elim (eqb_tells n x) as (λ _. IsOwnForm form h) [
-            | inl p ↦ subst (λ (h : GateValue). form h ≡ Gate (key_of h) h.phase) (sym (here n h at p.1)) (laws.stable gx k phase native_x is_key)
+          own_form = λ n h at c. elim (eqb_tells n x) as (λ _. IsOwnForm kind h) [
+            | inl p ↦ subst (λ (h : GateValue). form_of kind h ≡ Gate (key_of h) h.phase) (sym (here n h at p.1)) ((kind_laws kind).stable gx k phase native_x is_key)
             | inr p ↦ I.own_form n h (before n h at p.1) (clean n p.1 c)
           ];
           apart = λ m n h j at bt cm cn e. elim (eqb_tells m x) as (λ _. m ≡ n) [
@@ -75,15 +78,15 @@ module _ (kind : Kind) (form : GateValue → Normal) (laws : NormalLaws (IsNativ
         }
 
 -- in a hashed network what resolves to a signal is represented by it
-resolved-stands : (kind : Kind) (form : GateValue → Normal) (C : NetworkValue) → IsStrashed kind form C → (f : Normal) (t : Signal) → ResolvesTo form C f t → StandsFor C f t
-resolved-stands kind form C strashed f t (inl is) = subst (λ f. StandsFor C f t) (sym is) refl
-resolved-stands kind form C strashed f t (inr r) =
+resolved-stands : (kind : Kind) (C : NetworkValue) → IsStrashed kind C → (f : Normal) (t : Signal) → ResolvesTo kind C f t → StandsFor C f t
+resolved-stands kind C strashed f t (inl is) = subst (λ f. StandsFor C f t) (sym is) refl
+resolved-stands kind C strashed f t (inr r) =
     subst (λ f. StandsFor C f t) (sym (r.2 ∙ ap (carried t.complement) (strashed.own_form t.node.0 r.0 r.1))) (r.0, r.1, refl, refl)
 
 -- where no gate is dirty, the cascade is over
-pub cascade-ends : (kind : Kind) (form : GateValue → Normal) (N : NetworkValue) (o : ℕ) (s : Signal) (C : NetworkValue) (rep : ℕ → Signal) (dirty : ℕ → Bool) → IsCascading kind form N o s C rep dirty → ((n : ℕ) → dirty n ≡ false) → IsMerged kind form N o s C rep
-cascade-ends kind form N o s C rep dirty I clean =
-    let strashed : IsStrashed kind form C = record {
+pub cascade-ends : (kind : Kind) (N : NetworkValue) (o : ℕ) (s : Signal) (C : NetworkValue) (rep : ℕ → Signal) (dirty : ℕ → Bool) → IsCascading kind N o s C rep dirty → ((n : ℕ) → dirty n ≡ false) → IsMerged kind N o s C rep
+cascade-ends kind N o s C rep dirty I clean =
+    let strashed : IsStrashed kind C = record {
       native = I.native;
       own_form = λ n g at. I.own_form n g at (clean n);
       and_phase = I.and_phase;
@@ -91,7 +94,7 @@ cascade-ends kind form N o s C rep dirty I clean =
     } in
     record {
       leaves = I.leaves;
-      nodes = record { leaf = I.leaf; gate = λ n g at. resolved-stands kind form C strashed _ (rep n) (I.gate n g at) };
+      nodes = record { leaf = I.leaf; gate = λ n g at. resolved-stands kind C strashed _ (rep n) (I.gate n g at) };
       outputs = I.outputs;
       own = I.own;
       kept = I.kept;

@@ -7,7 +7,8 @@ use Rattle.lnet_gates.specs.declared.normal.Normal.TheVariants.{Is, Gate}
 use Rattle.lnet_gates.specs.Gates.{GateValue, flip}
 use Rattle.lnet_gates.specs.Operands.{flipped, moved}
 use Rattle.lnet_gates.specs.Natives.{IsNativeGate}
-use Rattle.lnet_gates.specs.NormalLaws.{NormalLaws, replaced_in}
+use Rattle.lnet_gates.specs.NormalLaws.{replaced_in}
+use Rattle.lnet_gates.specs.Forms.{form_of}
 use Rattle.lnet_model.specs.Networks.{Constant, Input, IsGate, NetworkValue, entry_at, IsLive}
 use Rattle.lnet_model.specs.Along.{In, Acyclic, IsClosed, IsWhole, nodes_read}
 use Rattle.lnet_model.specs.Values.{node_value, signal_value, network_outputs}
@@ -33,7 +34,7 @@ leaves-between A B C p q = record {
   input = λ n k. (λ h. (q.input n k).0 ((p.input n k).1 h), λ h. (p.input n k).0 ((q.input n k).1 h));
 }
 
-module _ (kind : Kind) (form : GateValue → Normal) (laws : NormalLaws (IsNativeGate kind) form) (N : NetworkValue) (o : ℕ) (s : Signal) (can : CanSubstitute kind form N o s) where
+module _ (kind : Kind) (N : NetworkValue) (o : ℕ) (s : Signal) (can : CanSubstitute kind N o s) where
   pub target-apart : s.node.0 ≢ o
   target-apart e = can.free ([], can.live, e)
 
@@ -44,14 +45,14 @@ module _ (kind : Kind) (form : GateValue → Normal) (laws : NormalLaws (IsNativ
   replaced-is-IsWhole = whole-replaced N o s can.gate.0 can.gate.1 can.whole target-apart can.live
 
   pub replaced-natives : (n : ℕ) (g : GateValue) → GateAt (replaced N o s) n g → IsNativeGate kind g
-  replaced-natives = natives-replaced kind form laws N o s can.gate.0 can.gate.1 can.strashed.native
+  replaced-natives = natives-replaced kind N o s can.gate.0 can.gate.1 can.strashed.native
 
-  module _ (Q : NetworkValue) (h : Substitutes kind form N o s Q) where
+  module _ (Q : NetworkValue) (h : Substitutes kind N o s Q) where
     -- a substitution has the outputs of the network with the node replaced
     pub substituted-outputs : (a : ℕ → Bool) → network_outputs Q a ≡ network_outputs (replaced N o s) a
     substituted-outputs a =
         outputs-dropped N h.merged Q a h.merges.acyclic h.merges.whole h.drops
-        ∙ outputs-represented kind form laws h.merged (replaced N o s) h.rep a h.merges.acyclic replaced-is-Acyclic replaced-is-IsWhole.closed h.merges.whole.first
+        ∙ outputs-represented kind h.merged (replaced N o s) h.rep a h.merges.acyclic replaced-is-Acyclic replaced-is-IsWhole.closed h.merges.whole.first
         (leaves-between N (replaced N o s) h.merged (leaves-replaced N o s can.gate.0 can.gate.1) h.merges.leaves)
         replaced-natives h.merges.nodes h.merges.outputs replaced-is-IsWhole.outputs_live
 
@@ -64,8 +65,8 @@ module _ (kind : Kind) (form : GateValue → Normal) (laws : NormalLaws (IsNativ
     pub substituted-IsWhole : IsWhole Q
     substituted-IsWhole = dropped-IsWhole N h.merged Q h.merges.acyclic h.merges.whole h.drops
 
-    pub substituted-IsStrashed : IsStrashed kind form Q
-    substituted-IsStrashed = strashed-fewer kind form Q h.merged (λ n g at. (h.drops.gates n g at).0) h.merges.strashed
+    pub substituted-IsStrashed : IsStrashed kind Q
+    substituted-IsStrashed = strashed-fewer kind Q h.merged (λ n g at. (h.drops.gates n g at).0) h.merges.strashed
 
     pub substituted-IsTidy : IsTidy N → IsTidy Q
     substituted-IsTidy tidy = dropped-named N h.merged Q h.merges.acyclic h.merges.whole h.drops (λ n g. tidy n (h.merges.own n g.0 g.1).1)
@@ -79,9 +80,9 @@ back-again false true q e = ap (λ z. flip z true) e
 back-again false false q e = ap (λ z. flip z false) e
 
 -- one signal stands for a normal form
-one-stands : (kind : Kind) (form : GateValue → Normal) (P : NetworkValue) → IsStrashed kind form P → (f : Normal) (t u : Signal) → StandsFor P f t → StandsFor P f u → t ≡ u
-one-stands kind form P strashed (Is s) t u h k = sym h ∙ k
-one-stands kind form P strashed (Gate k phase) t u (g, at, key, phases) (j, bt, other, turned) =
+one-stands : (kind : Kind) (P : NetworkValue) → IsStrashed kind P → (f : Normal) (t u : Signal) → StandsFor P f t → StandsFor P f u → t ≡ u
+one-stands kind P strashed (Is s) t u h k = sym h ∙ k
+one-stands kind P strashed (Gate k phase) t u (g, at, key, phases) (j, bt, other, turned) =
     let node : t.node.0 ≡ u.node.0 = strashed.apart t.node.0 u.node.0 g j at bt (sym key ∙ other) in
     let gate : g ≡ j = same-gates (sym at ∙ ap (entry_at P) node ∙ bt) in
     let left : t.complement ≡ flip phase g.phase = back-again t.complement g.phase phase (sym phases) in
@@ -93,8 +94,8 @@ moved-same : (r q : ℕ → Signal) (ss : List Signal) → ((m : ℕ) → In m (
 moved-same r q [] same = refl
 moved-same r q (s ∷ ss) same = λ i. flipped s.complement (same s.node.0 (inl refl) i) ∷ moved-same r q ss (λ m j. same m (inr j)) i
 
-pub one-representative : (kind : Kind) (form : GateValue → Normal) (P M : NetworkValue) (r q : ℕ → Signal) → IsStrashed kind form P → Acyclic M → IsClosed M → Represents form P M r → Represents form P M q → (n : ℕ) → IsLive M n → r n ≡ q n
-one-representative kind form P M r q strashed acyclic closed R S = along_induction M (λ n. IsLive M n → r n ≡ q n) acyclic (λ n below live.
+pub one-representative : (kind : Kind) (P M : NetworkValue) (r q : ℕ → Signal) → IsStrashed kind P → Acyclic M → IsClosed M → Represents kind P M r → Represents kind P M q → (n : ℕ) → IsLive M n → r n ≡ q n
+one-representative kind P M r q strashed acyclic closed R S = along_induction M (λ n. IsLive M n → r n ≡ q n) acyclic (λ n below live.
     elim (entry_at M n) as (λ o. entry_at M n ≡ o → IsSome o → r n ≡ q n) [
       | None ↦ λ _ l. cc
       | Some e ↦ elim e as (λ e. entry_at M n ≡ Some e → IsSome (Some e) → r n ≡ q n) [
@@ -102,7 +103,7 @@ one-representative kind form P M r q strashed acyclic closed R S = along_inducti
         | Input k ↦ λ at _. R.leaf n (inr (k, at)) ∙ sym (S.leaf n (inr (k, at)))
         | IsGate g ↦ λ at _.
             let fanins = moved-same r q g.fanins (λ m i. (let j = gate-fanin M n m g at i in below m j (closed n m j))) in
-            one-stands kind form P strashed (form (replaced_in r g)) (r n) (q n) (R.gate n g at)
-            (subst (λ ss. StandsFor P (form (record { op = g.op; phase = g.phase; fanins = ss })) (q n)) (sym fanins) (S.gate n g at))
+            one-stands kind P strashed (form_of kind (replaced_in r g)) (r n) (q n) (R.gate n g at)
+            (subst (λ ss. StandsFor P (form_of kind (record { op = g.op; phase = g.phase; fanins = ss })) (q n)) (sym fanins) (S.gate n g at))
       ]
     ] refl live)

@@ -9,8 +9,10 @@ use Rattle.lnet_gates.specs.declared.normal.Normal.TheVariants.{Is, Gate}
 use Rattle.lnet_gates.specs.Gates.{GateValue, flip, operate, apply}
 use Rattle.lnet_gates.specs.Operands.{flipped, moved, read}
 use Rattle.lnet_gates.specs.Natives.{IsNativeGate}
-use Rattle.lnet_gates.specs.NormalLaws.{NormalLaws, replaced_in, form_reading}
+use Rattle.lnet_gates.specs.NormalLaws.{replaced_in, form_reading}
 use Rattle.lnet_gates.specs.Lawful.OperandLemmas.{flip-flip, read-flipped}
+use Rattle.lnet_gates.specs.Forms.{form_of}
+use Rattle.lnet_gates.specs.Lawful.KindLaws.{kind_laws}
 use Rattle.lnet_model.specs.Networks.{Constant, Input, IsGate, NetworkValue, entry_at, fanins_of, IsLive}
 use Rattle.lnet_model.specs.Along.{at_entry, once, In, Depends, Acyclic, IsClosed, IsWhole, fanin_nodes, nodes_read}
 use Rattle.lnet_model.specs.Values.{value_step, node_value, signal_value, network_outputs}
@@ -49,11 +51,11 @@ stands-read P a acyclic (Gate k phase) t (g, at, key, phases) =
     ∙ ap (λ c. flip c (operate g.op (map (signal_value P a) g.fanins))) (sym phases)
     ∙ ap (λ k. flip phase (operate k.op (map (read (node_value P a)) k.fanins))) (sym key)
 
-module _ (kind : Kind) (form : GateValue → Normal) (laws : NormalLaws (IsNativeGate kind) form) (P M : NetworkValue) (rep : ℕ → Signal) (a : ℕ → Bool) (cp : Acyclic P) (cm : Acyclic M) (closed : IsClosed M) (first : entry_at P 0 ≡ Some Constant) (leaves : SameLeaves M P) (native : (n : ℕ) (g : GateValue) → GateAt M n g → IsNativeGate kind g) (R : Represents form P M rep) where
+module _ (kind : Kind) (P M : NetworkValue) (rep : ℕ → Signal) (a : ℕ → Bool) (cp : Acyclic P) (cm : Acyclic M) (closed : IsClosed M) (first : entry_at P 0 ≡ Some Constant) (leaves : SameLeaves M P) (native : (n : ℕ) (g : GateValue) → GateAt M n g → IsNativeGate kind g) (R : Represents kind P M rep) where
   gate-represented : (n : ℕ) (g : GateValue) → GateAt M n g → ((m : ℕ) → In m (nodes_read g.fanins) → read (node_value P a) (rep m) ≡ node_value M a m) → read (node_value P a) (rep n) ≡ node_value M a n
   gate-represented n g at up =
-      stands-read P a cp (form (replaced_in rep g)) (rep n) (R.gate n g at)
-      ∙ laws.value (node_value P a) (replaced_in rep g) (value-constant P a 0 cp first) (native-again kind rep g (native n g at))
+      stands-read P a cp (form_of kind (replaced_in rep g)) (rep n) (R.gate n g at)
+      ∙ (kind_laws kind).value (node_value P a) (replaced_in rep g) (value-constant P a 0 cp first) (native-again kind rep g (native n g at))
       ∙ ap (apply g.op g.phase) (reads-moved (node_value P a) (node_value M a) rep g.fanins up)
       ∙ sym (gate_value M a n g cm at)
 

@@ -6,6 +6,8 @@ use Rattle.lnet_gates.specs.declared.normal.Normal.{Normal}
 use Rattle.lnet_gates.specs.declared.normal.Normal.TheVariants.{Is, Gate}
 use Rattle.lnet_gates.specs.Gates.{GateValue, flip}
 use Rattle.lnet_gates.specs.NormalLaws.{replaced_in}
+use Rattle.lnet_gates.specs.Forms.{form_of}
+use Rattle.lnet_gates.specs.declared.gate.Kind.{Kind}
 use Rattle.lnet_model.specs.Networks.{NetworkValue, Constant, Input, entry_at}
 use Rattle.lnet_model.specs.Changes.{GateAt}
 use Rattle.lnet_hashed.specs.Strashed.{key_of}
@@ -22,6 +24,6 @@ StandsFor P (Gate k phase) t = (g : GateValue) × GateAt P t.node.0 g × (k ≡ 
 
 -- rep gives the signal of P that stands for each node of M: the constant and the inputs stand for themselves, and for a gate
 -- stands what its normal form gives, taken over what stands for its fanins
-pub record Represents (form : GateValue → Normal) (P M : NetworkValue) (rep : ℕ → Signal) : Type 0 where
+pub record Represents (kind : Kind) (P M : NetworkValue) (rep : ℕ → Signal) : Type 0 where
   pub leaf : (n : ℕ) → IsLeafAt M n → rep n ≡ signal_of n
-  pub gate : (n : ℕ) (g : GateValue) → GateAt M n g → StandsFor P (form (replaced_in rep g)) (rep n)
+  pub gate : (n : ℕ) (g : GateValue) → GateAt M n g → StandsFor P (form_of kind (replaced_in rep g)) (rep n)

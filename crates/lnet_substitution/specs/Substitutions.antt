@@ -3,7 +3,6 @@
 use Rattle.std.specs.Prelude.{◌≡◌, ◌≢◌, ℕ, ◌⊎◌, ◌↔◌, map, Some}
 use Rattle.lnet_gates.specs.declared.signal.Signal.{Signal}
 use Rattle.lnet_gates.specs.declared.gate.Kind.{Kind}
-use Rattle.lnet_gates.specs.declared.normal.Normal.{Normal}
 use Rattle.lnet_gates.specs.Gates.{GateValue}
 use Rattle.lnet_gates.specs.Operands.{moved}
 use Rattle.lnet_model.specs.Networks.{NetworkValue, Constant, Input, IsLive, entry_at}
@@ -14,10 +13,10 @@ use Rattle.lnet_substitution.specs.Replaced.{signal_of, replaced}
 use Rattle.lnet_substitution.specs.Representatives.{Represents}
 
 -- in a hashed network without cycles, gate o may give way to s: s is live and doesn't depend on o
-pub record CanSubstitute (kind : Kind) (form : GateValue → Normal) (N : NetworkValue) (o : ℕ) (s : Signal) : Type 0 where
+pub record CanSubstitute (kind : Kind) (N : NetworkValue) (o : ℕ) (s : Signal) : Type 0 where
   pub acyclic : Acyclic N
   pub whole : IsWhole N
-  pub strashed : IsStrashed kind form N
+  pub strashed : IsStrashed kind N
   pub gate : IsGateAt N o
   pub live : IsLive N s.node.0
   pub free : Depends N s o → ⊥
@@ -31,16 +30,16 @@ pub record SameLeaves (N P : NetworkValue) : Type 0 where
 
 -- the references to o go to s, and gates of one structure are one; rep says which node of P stands for each node.
 -- P still has the gates that lost their last reference
-pub record IsMerged (kind : Kind) (form : GateValue → Normal) (N : NetworkValue) (o : ℕ) (s : Signal) (P : NetworkValue) (rep : ℕ → Signal) : Type 0 where
+pub record IsMerged (kind : Kind) (N : NetworkValue) (o : ℕ) (s : Signal) (P : NetworkValue) (rep : ℕ → Signal) : Type 0 where
   pub leaves : SameLeaves N P
   -- each node of the network with o replaced is represented in P, and each output of P stands for its output
-  pub nodes : Represents form P (replaced N o s) rep
+  pub nodes : Represents kind P (replaced N o s) rep
   pub outputs : P.outputs ≡ map (moved rep) (replaced N o s).outputs
   -- each gate of P was a gate, other than o, and stands for itself
   pub own : (n : ℕ) (g : GateValue) → GateAt P n g → (n ≢ o) × IsGateAt N n × (rep n ≡ signal_of n)
   -- what didn't depend on o is as it was
   pub kept : (n : ℕ) (g : GateValue) → GateAt N n g → (Reaches N n o → ⊥) → GateAt P n g
-  pub strashed : IsStrashed kind form P
+  pub strashed : IsStrashed kind P
   pub acyclic : Acyclic P
   pub whole : IsWhole P
 
@@ -69,8 +68,8 @@ pub record DropsLost (N P Q : NetworkValue) : Type 0 where
 
 -- Q comes of N by the substitution of s for o. Left open is alone which number remains among gates of one structure that all
 -- depended on o
-pub record Substitutes (kind : Kind) (form : GateValue → Normal) (N : NetworkValue) (o : ℕ) (s : Signal) (Q : NetworkValue) : Type 0 where
+pub record Substitutes (kind : Kind) (N : NetworkValue) (o : ℕ) (s : Signal) (Q : NetworkValue) : Type 0 where
   pub merged : NetworkValue
   pub rep : ℕ → Signal
-  pub merges : IsMerged kind form N o s merged rep
+  pub merges : IsMerged kind N o s merged rep
   pub drops : DropsLost N merged Q

@@ -1,5 +1,5 @@
 -- The constant tables of words, checked by computation.
-use Rattle.std.proofs.Common.{◌≡◌, ℕ, ◌+◌, ◌^◌, ◌/◌, ◌<◌, ◌≤◌, Bool, true, false, List, [], ◌∷◌, length, refl, ◌∙◌, ap, arith, ◌==◌, suc, zero, get_or, inl, inr, add-zero, lit≤, bit_and, eqb, zero-add}
+use Rattle.std.proofs.Common.{◌≡◌, ℕ, ◌+◌, ◌^◌, ◌/◌, ◌<◌, ◌≤◌, Bool, true, false, List, [], ◌∷◌, length, refl, ◌∙◌, ap, arith, ◌==◌, suc, zero, get_or, inl, inr, add-zero, lit≤, bit_and, eqb, zero-add, nat_lt}
 use mathlib.Core.Bool.{◌&&◌}
 use Rattle.std.proofs.lemmas.Bool.{cases_lt, agree_below, agree_below_at, and_parts, eqb-true}
 use Rattle.std.proofs.lemmas.Nat.{pow_below}
@@ -7,6 +7,7 @@ use Rattle.std.proofs.lemmas.Nat.Bits.{shr_and_one, bit_at-zero}
 use Rattle.std.proofs.lemmas.List.{get_or_past}
 use Rattle.lnet_tables.specs.Bits.{is_set}
 use Rattle.lnet_tables.specs.Words.{word_bit}
+use Rattle.lnet_tables.specs.declared.masks.TheConstants.{ONES, VARIABLES}
 
 unfoldable pub words_agree : (ℕ → ℕ → Bool) → ℕ → List (List ℕ) → Bool
 words_agree want i [] = true
@@ -56,21 +57,10 @@ pub agree : (want : ℕ → ℕ → Bool) (all : List (List ℕ)) → words_agre
     → (v : ℕ) → v < length all → (d : List ℕ) (r : ℕ) → r < 1024 → word_bit (get_or all v d) r ≡ want v r
 agree want all h v lt d r below = agree_at want 0 all h v lt d r below ∙ ap (λ n. want n r) (zero-add v)
 
--- the same for single words
-unfoldable pub single_agree : (ℕ → ℕ → Bool) → ℕ → List ℕ → Bool
-single_agree want i [] = true
-single_agree want i (w ∷ all) = agree_below (is_set w) (want i) 64 && single_agree want (i + 1) all
+pub ones_agree : words_agree (λ v r. nat_lt r (2 ^ v)) 0 ONES ≡ true
+unfolding words_agree word_bit is_set
+ones_agree = refl
 
-single_from : (want : ℕ → ℕ → Bool) (i : ℕ) (all : List ℕ) → single_agree want i all ≡ true
-    → (v : ℕ) → v < length all → (d r : ℕ) → r < 64 → is_set (get_or all v d) r ≡ want (i + v) r
-unfolding single_agree
-single_from want i [] h v lt d r below = absurd (omega arith)
-single_from want i (w ∷ all) h zero lt d r below =
-    rw add-zero (agree_below_at (is_set w) (want i) 64 r (and_parts _ _ h).0 below)
-single_from want i (w ∷ all) h (suc v) lt d r below =
-    let e : (i + 1) + v ≡ i + suc v = omega arith in
-    single_from want (i + 1) all (and_parts _ _ h).1 v (omega arith) d r below ∙ ap (λ n. want n r) e
-
-pub single_at : (want : ℕ → ℕ → Bool) (all : List ℕ) → single_agree want 0 all ≡ true
-    → (v : ℕ) → v < length all → (d r : ℕ) → r < 64 → is_set (get_or all v d) r ≡ want v r
-single_at want all h v lt d r below = single_from want 0 all h v lt d r below ∙ ap (λ n. want n r) (zero-add v)
+pub variables_agree : words_agree (λ i r. is_set r i) 0 VARIABLES ≡ true
+unfolding words_agree word_bit is_set
+variables_agree = refl

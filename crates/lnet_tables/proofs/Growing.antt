@@ -1,5 +1,5 @@
 -- What literals mean as a recipe grows: laws for whoever builds one.
-use Rattle.std.proofs.Common.{◌≡◌, ℕ, ◌+◌, ◌-◌, ◌*◌, ◌^◌, ◌%◌, ◌<◌, Bool, true, false, cond, List, [], ◌∷◌, ◌++◌, length, refl, sym, ◌∙◌, ap, arith, ◌==◌, suc, zero, get_or, not, append_assoc, add-zero, append-nil, length-append}
+use Rattle.std.proofs.Common.{◌≡◌, ℕ, ◌+◌, ◌-◌, ◌*◌, ◌^◌, ◌%◌, ◌<◌, Bool, true, false, cond, List, [], ◌∷◌, ◌++◌, length, refl, sym, ◌∙◌, ap, arith, ◌==◌, suc, zero, get_or, not, append_assoc, add-zero, length-append}
 use Rattle.lnet_tables.proofs.Ops.{same_rows}
 use Rattle.lnet_tables.proofs.Rowwise.{eta_rows}
 use Rattle.std.proofs.lemmas.List.{get_or_append_left, get_or_push, length_push}
@@ -45,12 +45,6 @@ means_kept s t l f g m = record {
       ∙ lit_kept s.leaves s.steps g.more l r m.inside
       ∙ m.value r (rw (← g.leaves) lt);
 }
-
-pub grows_push : (s t : RecipeValue) (x : Step) → t.leaves ≡ s.leaves → t.steps ≡ s.steps ++ x ∷ [] → Grows s t
-grows_push s t x el es = record { leaves = el; more = x ∷ []; steps = es }
-
-pub grows_same : (s t : RecipeValue) → t ≡ s → Grows s t
-grows_same s t e = record { leaves = ap (λ (x : RecipeValue). x.leaves) e; more = []; steps = ap (λ (x : RecipeValue). x.steps) e ∙ sym (append-nil s.steps) }
 
 pub grows_more : (s t u : RecipeValue) → Grows s t → Grows t u → Grows s u
 grows_more s t u g h = record {

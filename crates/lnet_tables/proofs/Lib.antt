@@ -21,3 +21,4 @@ pub mod ShannonCases
 pub mod ShannonMeans
 pub mod ShannonLength
 pub mod ShannonLaws
+pub mod DigitLemmas

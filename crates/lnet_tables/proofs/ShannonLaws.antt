@@ -22,9 +22,6 @@ shannon_function t long =
     (expansion_means t.vars s t refl (omega arith) (below_all t)) in
     sim_is (shannon_of t) t refl long (means_rooted (grown s (expansion t.vars (t.vars + 1) t)) (expansion t.vars (t.vars + 1) t).root (row t) m)
 
-pub shannon_short : (t : Rows) → t.vars ≤ 7 → length (shannon_of t).steps ≤ 128
-shannon_short t few = omega (arith, expansion_short t.vars (t.vars + 1) t (omega arith) (below_all t), most_small t.vars few)
-
 pub laid_short : (t : Rows) (v : ℕ) (s : RecipeValue) → v ≡ t.vars → length s.steps ≡ 0 → t.vars ≤ 7 → length s.steps + length (expansion v (next_place s) t).steps ≤ 128
 laid_short t v s e none few =
     let all : Below v t = rw e (below_all t) in

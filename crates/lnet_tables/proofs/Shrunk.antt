@@ -101,10 +101,6 @@ part_kept : (m r j : ℕ) → is_set m j ≡ true → part m r j j ≡ part m r 
 unfolding part
 part_kept m r j h = rw (le-ltb j j (omega arith), lt-ltb j (suc j) (omega arith), h) refl
 
-part_dropped : (m r j : ℕ) → is_set m j ≡ false → part m r (suc j) j ≡ false
-unfolding part
-part_dropped m r j h = rw (lt-ltb j (suc j) (omega arith), h) refl
-
 part_same : (m r j : ℕ) → is_set m j ≡ true → (i : ℕ) → part m r (suc j) i ≡ part m r j i
 part_same m r j h i =
     elim (cases_eq i j) [

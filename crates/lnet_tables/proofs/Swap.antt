@@ -96,11 +96,6 @@ pub record Rising (i j up : ℕ) : Type 0 where
   pub order : i < j
   pub inside : j < 6
 
-fell_at : (i j up b : ℕ) → Rising i j up → b < 64
-    → is_set (up * 2 ^ (2 ^ j - 2 ^ i) % 18446744073709551616) b
-    ≡ (leb (2 ^ j - 2 ^ i) b && (is_set (b - (2 ^ j - 2 ^ i)) i && not (is_set (b - (2 ^ j - 2 ^ i)) j)))
-fell_at i j up b h lt = set_shl up (2 ^ j - 2 ^ i) b lt ∙ ap (λ t. leb (2 ^ j - 2 ^ i) b && t) (h.at (b - (2 ^ j - 2 ^ i)) (omega arith))
-
 moved_up : (word up d b : ℕ) → b < 64 → is_set (bit_and word up * 2 ^ d % 18446744073709551616) b
     ≡ ((leb d b && is_set up (b - d)) && is_set word (b - d))
 moved_up word up d b lt = set_shl (bit_and word up) d b lt ∙ ap (λ t. leb d b && t) (set_and word up (b - d)) ∙ turn_and (leb d b) (is_set word (b - d)) (is_set up (b - d))

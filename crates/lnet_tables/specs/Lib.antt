@@ -7,3 +7,4 @@ pub mod WholeTables
 pub mod Means
 pub mod Shannon
 pub mod Weights
+pub mod Digits

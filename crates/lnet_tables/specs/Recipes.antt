@@ -50,10 +50,6 @@ leaf_values n r = false ∷ map (is_set r) (range_with_len 0 n)
 abbrev pub root_value : RecipeValue → ℕ → Bool
 root_value t r = lit_value (run t.steps (leaf_values t.leaves r)) t.root
 
--- the table of a recipe over m leaves: those of its own leaves that are past m are false
-abbrev pub sim_on : RecipeValue → ℕ → Rows
-sim_on t m = by_rows m (root_value t)
-
 -- the table of a recipe over its own leaves
 abbrev pub sim : RecipeValue → Rows
 sim t = by_rows t.leaves (root_value t)

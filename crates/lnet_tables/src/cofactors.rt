@@ -42,7 +42,7 @@ impl Table {
     {
         if self.vars <= 6 {
             let word = self.word();
-            cofactor_word(word, index, false) != cofactor_word(word, index, true)
+            cofactor_word(word, index as usize, false) != cofactor_word(word, index as usize, true)
         } else {
             self.cofactors_differ(index)
         }

@@ -1,6 +1,6 @@
 //! The words of the tables that all others are made from: all true, and a single variable.
 
-ghost use Rattle.std.specs.Prelude.{◌≡◌, ℕ, ◌^◌, ◌<◌, ◌≤◌, nat_lt, not};
+ghost use Rattle.std.specs.Prelude.{◌≡◌, ℕ, ◌^◌, ◌<◌, ◌≤◌, ◌-◌, nat_lt, not};
 ghost use Rattle.lnet_tables.specs.Bits.{is_set};
 ghost use Rattle.lnet_tables.specs.Words.{word_bit};
 
@@ -48,16 +48,6 @@ const VARIABLES: [[u64; 16]; 10] = [
     ],
 ];
 
-/// The word whose row `r` is true where bit `i` of `r` is 0, for each `i`.
-const LOW: [u64; 6] = [
-    0x5555555555555555,
-    0x3333333333333333,
-    0x0f0f0f0f0f0f0f0f,
-    0x00ff00ff00ff00ff,
-    0x0000ffff0000ffff,
-    0x00000000ffffffff,
-];
-
 /// The words whose rows below `2^vars` are true, and no others.
 pub(crate) fn ones(vars: u8) -> [u64; 16]
     requires { vars ≤ 10 }
@@ -74,10 +64,28 @@ pub(crate) fn variable_words(index: u8) -> [u64; 16]
     VARIABLES[index as usize]
 }
 
-/// The word whose row `r` is true where bit `index` of `r` is 0.
-pub(crate) fn low_rows(index: u8) -> u64
+/// The word of the rows whose bit `index` is 1.
+pub fn high_rows(index: usize) -> u64
+    requires { index < 6 }
+    ensures { (r : ℕ) → r < 64 → is_set result r ≡ is_set r index }
+{
+    VARIABLES[index][0]
+}
+
+/// The word of the rows whose bit `index` is 0.
+pub fn low_rows(index: usize) -> u64
     requires { index < 6 }
     ensures { (r : ℕ) → r < 64 → is_set result r ≡ not (is_set r index) }
 {
-    LOW[index as usize]
+    !high_rows(index)
+}
+
+/// The word of the first `2^count` rows: those whose bits from the `count`-th on are 0.
+pub fn first_rows(count: usize) -> u64
+    requires { count ≤ 6 }
+    ensures rows { (r : ℕ) → r < 64 → is_set result r ≡ nat_lt r (2 ^ count) }
+    ensures value { result ≡ 2 ^ 2 ^ count - 1 }
+    ensures fits { result < 2 ^ 2 ^ count }
+{
+    ONES[count][0]
 }

@@ -10,7 +10,7 @@ use crate::table::Table;
 
 /// The rows of `word` with bit `index` of their number set to `value`: row `r` is the row of `word` whose number is
 /// `r` so changed.
-pub(crate) fn cofactor_word(word: u64, index: u8, value: bool) -> u64
+pub fn cofactor_word(word: u64, index: usize, value: bool) -> u64
     requires { index < 6 }
     ensures { (r : ℕ) → r < 64 → is_set result r ≡ is_set word (with_bit r index value) }
 {
@@ -50,7 +50,7 @@ pub(crate) fn cofactor_words(words: &[u64; 16], vars: u8, index: u8, value: bool
     ensures { (r : ℕ) → r < 2 ^ vars → word_bit result r ≡ word_bit words.now (with_bit r index value) }
 {
     if index < 6 {
-        by_words(vars, |k| cofactor_word(words[k], index, value))
+        by_words(vars, |k| cofactor_word(words[k], index as usize, value))
     } else {
         by_words(
             vars,
@@ -86,7 +86,7 @@ pub(crate) fn repeat_word(word: u64, from: u8, to: u8) -> u64
 {
     let mut out = word;
     for index in from..to {
-        out = cofactor_word(out, index, false);
+        out = cofactor_word(out, index as usize, false);
     }
     out
 }

@@ -10,6 +10,8 @@ mod blif;
 #[cfg(test)]
 mod circuits;
 #[cfg(test)]
+mod converting;
+#[cfg(test)]
 mod generated;
 #[cfg(test)]
 mod names;

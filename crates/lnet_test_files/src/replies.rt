@@ -2,19 +2,19 @@
 
 use lnet_edge::Fault;
 use lnet_gates::Kind;
-use lnet_replies::{Reply, Unmet, is_met, text_of_reply};
+use lnet_replies::{Counts, Reply, Unmet, is_met, text_of_reply};
 use std::test::Fail;
 
 #[test]
 fn lines_of_the_transcript(rt: HostRuntime) -> Result<(), Fail> {
     let alloc = rt.alloc();
     let (kind, inputs, outputs, gates) = (Kind::Xag, 2, 1, 3);
-    let read = Reply::Network {
+    let read = Reply::Network(Counts {
         kind,
         inputs,
         outputs,
         gates,
-    };
+    });
     assert!(rt; is_met(&read));
     let line = "network xag inputs 2 outputs 1 gates 3\n";
     assert_eq!(rt; text_of_reply(alloc, 1, read)?.as_str(), line);

@@ -1,7 +1,7 @@
 //! Contents of each format, right and wrong, that are read as the first command of a script, and generated circuits.
 
-use crate::runs::{ONE, compare, owned, status_of};
-use lnet_edge::{MemoryFiles, MemorySink};
+use crate::runs::{compare, owned};
+use lnet_edge::MemoryFiles;
 use std::alloc::{AllocError, Global};
 use std::process::Abort;
 use std::test::Fail;
@@ -31,7 +31,7 @@ fn check<R: Abort>(rt: &R, alloc: Global, content: &Content) -> Result<(), Alloc
     )
 }
 
-const CONTENTS: [Content; 32] = [
+const CONTENTS: [Content; 29] = [
     Content {
         name: "forward.aag",
         bytes: b"aag 5 2 0 1 3\n2\n4\n10\n10 8 6\n6 2 4\n8 3 5\n",
@@ -51,27 +51,6 @@ const CONTENTS: [Content; 32] = [
         bytes: b"aag 0 0 0 0 0",
         script: "read aiger empty.aag aig; write aag x",
         transcript: "network aig inputs 0 outputs 0 gates 0\nwrote 14\n",
-        status: 0,
-    },
-    Content {
-        name: "cut.aig",
-        bytes: b"aig 3 2 0 1 1\n6\n\x82",
-        script: "read aiger cut.aig xag",
-        transcript: "unmet 1 Malformed 3 Missing\n",
-        status: 1,
-    },
-    Content {
-        name: "zero.aig",
-        bytes: b"aig 3 2 0 1 1\n6\n\x00\x00",
-        script: "read aiger zero.aig aig",
-        transcript: "unmet 1 Malformed 3 Delta\n",
-        status: 1,
-    },
-    Content {
-        name: "and.aig",
-        bytes: b"aig 3 2 0 1 1\n6\n\x02\x02",
-        script: "read aiger and.aig aig; write aig b.aig",
-        transcript: "network aig inputs 2 outputs 1 gates 1\nwrote 18\n",
         status: 0,
     },
     Content {
@@ -263,85 +242,6 @@ fn contents(rt: HostRuntime) -> Result<(), Fail> {
     let alloc = rt.alloc();
     for content in &CONTENTS {
         check(&rt, alloc, content)?;
-    }
-    Ok(())
-}
-
-/// A binary file of one gate.
-const BINARY: &[u8] = b"aig 3 2 0 1 1\n6\n\x02\x02";
-
-/// What is told of the file's first bytes.
-fn told(count: usize) -> &'static str {
-    match count {
-        0 => "unmet 2 Malformed 1 Missing\n",
-        1..=12 => "unmet 2 Malformed 1 Header\n",
-        13 | 14 => "unmet 2 Malformed 2 Missing\n",
-        15..=17 => "unmet 2 Malformed 3 Missing\n",
-        _ => "network aig inputs 2 outputs 1 gates 1\n",
-    }
-}
-
-/// Reads the first bytes of the binary file behind another, and compares what is told.
-fn check_cut<R: Abort>(rt: &R, alloc: Global, count: usize) -> Result<(), AllocError> {
-    let mut files = MemoryFiles::new(alloc, Vec::new(alloc));
-    files.set("one.aag", ONE)?;
-    files.set("cut.aig", BINARY.get(..count).unwrap_or(BINARY))?;
-    let words = owned(
-        alloc,
-        &["lognet", "read aiger one.aag aig; read aiger cut.aig aig"],
-    )?;
-    let line = told(count);
-    let transcript = format!(in alloc; "network aig inputs 0 outputs 1 gates 0\n{line}")?;
-    let status = if count < BINARY.len() { 1 } else { 0 };
-    compare(
-        rt,
-        alloc,
-        &words,
-        &transcript,
-        status,
-        &mut files,
-        Vec::new(alloc),
-    )
-}
-
-#[test]
-fn truncated(rt: HostRuntime) -> Result<(), Fail> {
-    let alloc = rt.alloc();
-    for count in 0..=BINARY.len() {
-        check_cut(&rt, alloc, count)?;
-    }
-    Ok(())
-}
-
-/// A file of six gates.
-pub(crate) const C17: &[u8] =
-    b"INPUT(1)\nINPUT(2)\nINPUT(3)\nINPUT(6)\nINPUT(7)\nOUTPUT(22)\nOUTPUT(23)\n10 = NAND(1, 3)\n11 = NAND(3, 6)\n16 = NAND(2, 11)\n19 = NAND(11, 7)\n22 = NAND(10, 16)\n23 = NAND(16, 19)\n";
-
-/// Reads the first bytes of the file behind another: where they mean no circuit, the network in place stays.
-fn check_prefix<R: Abort>(rt: &R, alloc: Global, count: usize) -> Result<(), AllocError> {
-    let mut files = MemoryFiles::new(alloc, Vec::new(alloc));
-    files.set("one.aag", ONE)?;
-    files.set("cut.bench", C17.get(..count).unwrap_or(C17))?;
-    let script = "read aiger one.aag aig; read bench cut.bench aig; stats";
-    let words = owned(alloc, &["lognet", script])?;
-    let mut out = MemorySink::new(alloc, Vec::new(alloc));
-    let status = status_of(alloc, &words, &mut files, &mut out)?;
-    if status == 1 {
-        assert!(rt;
-            out.written()
-                .ends_with(b"\nstats aig inputs 0 outputs 1 gates 0 depth 0\n")
-        );
-    } else {
-        assert_eq!(rt; status, 0);
-    }
-    Ok(())
-}
-
-#[test]
-fn prefixes(rt: HostRuntime) -> Result<(), Fail> {
-    let alloc = rt.alloc();
-    for count in 0..=C17.len() {
-        check_prefix(&rt, alloc, count)?;
     }
     Ok(())
 }

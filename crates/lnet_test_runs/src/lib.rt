@@ -2,11 +2,17 @@
 #![tactic(auto)]
 
 #[cfg(test)]
+mod binary;
+#[cfg(test)]
 mod contents;
 #[cfg(test)]
 mod counting;
 #[cfg(test)]
 mod forms;
+#[cfg(test)]
+mod prefixes;
+#[cfg(test)]
+mod refused;
 #[cfg(test)]
 mod runs;
 #[cfg(test)]

@@ -57,8 +57,12 @@ fn check_left<R: Abort>(rt: &R, run: &Running) -> Result<(), Fail> {
     assert_eq!(rt; network.gate_count(), 1);
     let names = session.names().ok_or("no names")?;
     assert_eq!(rt;
-        (names.input_name(0), names.input_name(1)),
-        (None, Some("right"))
+        (
+            names.input_name(0),
+            names.input_name(1),
+            names.output_name(0)
+        ),
+        (None, Some("right"), Some("both"))
     );
     Ok(())
 }
@@ -68,7 +72,10 @@ fn check_left<R: Abort>(rt: &R, run: &Running) -> Result<(), Fail> {
 fn steps(rt: HostRuntime) -> Result<(), Fail> {
     let alloc = rt.alloc();
     let mut files = MemoryFiles::new(alloc, Vec::new(alloc));
-    files.set("and.aag", b"aag 3 2 0 1 1\n2\n4\n7\n6 2 4\ni1 right\n")?;
+    files.set(
+        "and.aag",
+        b"aag 3 2 0 1 1\n2\n4\n7\n6 2 4\ni1 right\no0 both\n",
+    )?;
     let script = b"write aag x; read aiger and.aag aig; view depth; write aag x; read aiger y aig";
     let commands = parse_script(alloc, script).ok().ok_or("a script")?;
     let [first, second, third, fourth, fifth] = &*commands else {
@@ -79,7 +86,13 @@ fn steps(rt: HostRuntime) -> Result<(), Fail> {
     views.push(levels)?;
     let session = Session::new(alloc, Kit { views });
     assert!(rt; session.network().is_none() && session.names().is_none());
-    assert_eq!(rt; session.shelf_len(ViewKind::Depth), 1);
+    assert_eq!(rt;
+        [
+            session.shelf_len(ViewKind::Depth),
+            session.shelf_len(ViewKind::Cuts)
+        ],
+        [1, 0]
+    );
     let out = MemorySink::new(alloc, Vec::new(alloc));
     let mut run = Running {
         session,
@@ -94,7 +107,7 @@ fn steps(rt: HostRuntime) -> Result<(), Fail> {
     check_left(&rt, &run)?;
     assert_eq!(rt;
         run.files.file("x").ok_or("no file")?,
-        b"aag 3 2 0 1 1\n2\n4\n7\n6 4 2\ni1 right\n".as_slice()
+        b"aag 3 2 0 1 1\n2\n4\n7\n6 4 2\ni1 right\no0 both\n".as_slice()
     );
     Ok(())
 }

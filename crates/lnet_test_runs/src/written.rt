@@ -1,8 +1,10 @@
 //! Networks that are written, with the bytes of the files, and read again.
 
-use crate::contents::C17;
+use crate::prefixes::C17;
 use crate::runs::{compare, owned, status_of};
 use lnet_edge::{MemoryFiles, MemorySink};
+use std::alloc::{AllocError, Global};
+use std::process::Abort;
 use std::test::Fail;
 
 /// The exclusive or of three, and that of two, built of gates of which one gives way to another.
@@ -40,13 +42,13 @@ fn written_after_a_merge(rt: HostRuntime) -> Result<(), Fail> {
     let mut files = MemoryFiles::new(alloc, Vec::new(alloc));
     files.set("y.bench", PARITY)?;
     let script =
-        "read bench y.bench xag; merge 6 !8; write bench p.bench; write blif p.blif; write aig p.aig";
+        "read bench y.bench xag; merge 6 !8; print; write bench p.bench; write blif p.blif; write aig p.aig";
     let words = owned(alloc, &["lognet", script])?;
     compare(
         &rt,
         alloc,
         &words,
-        "network xag inputs 3 outputs 2 gates 5\nmerged 6 gates 2\nwrote 110\nwrote 132\nunmet 5 WrongKind\n",
+        "network xag inputs 3 outputs 2 gates 5\nmerged 6 gates 2\nnode 0 false\nnode 1 input 0\nnode 2 input 1\nnode 3 input 2\nnode 7 !xor 3 8\nnode 8 xor 1 2\noutput 0 7\noutput 1 8\nwrote 110\nwrote 132\nunmet 6 WrongKind\n",
         1,
         &mut files,
         Vec::new(alloc),
@@ -60,24 +62,38 @@ fn written_after_a_merge(rt: HostRuntime) -> Result<(), Fail> {
     Ok(())
 }
 
-/// A file of a generated network names the same gates again.
+/// Runs the script without a file at first, and gives what it tells once its status was compared.
+fn told<R: Abort>(rt: &R, alloc: Global, script: &str) -> Result<Vec<u8>, AllocError> {
+    let mut files = MemoryFiles::new(alloc, Vec::new(alloc));
+    let words = owned(alloc, &["lognet", script])?;
+    let mut out = MemorySink::new(alloc, Vec::new(alloc));
+    assert_eq!(rt; status_of(alloc, &words, &mut files, &mut out)?, 0);
+    out.written().to_vec(alloc)
+}
+
+/// A generated network, with its file's length by the drawing's and the format's rules. The file names the same gates again: the
+/// counts of the two networks are equal. A second run tells the same.
 #[test]
-fn written_and_read_again(rt: HostRuntime) -> Result<(), Fail> {
+fn generated_and_read_again(rt: HostRuntime) -> Result<(), Fail> {
     let alloc = rt.alloc();
-    for format in ["bench", "blif"] {
-        let mut files = MemoryFiles::new(alloc, Vec::new(alloc));
-        let script = format!(in alloc;
-            "gen aig 64 4000 32 7; view depth; stats; write {format} g; read {format} g aig; stats"
+    for (script, bytes) in [
+        (
+            "gen aig 64 4000 32 7; view depth; stats; write bench g.bench; read bench g.bench aig; stats",
+            100_622,
+        ),
+        (
+            "gen aig 64 4000 32 7; view depth; stats; write blif g.blif; read blif g.blif aig; stats",
+            76_426,
+        ),
+    ] {
+        let network = "network aig inputs 64 outputs 32 gates 2382";
+        let stats = "stats aig inputs 64 outputs 32 gates 2382 depth 70";
+        let lines = format!(in alloc;
+            "{network}\nview 1 depth\n{stats}\nwrote {bytes}\n{network}\n{stats}\n"
         )?;
-        let words = owned(alloc, &["lognet", &script])?;
-        let mut out = MemorySink::new(alloc, Vec::new(alloc));
-        assert_eq!(rt; status_of(alloc, &words, &mut files, &mut out)?, 0);
-        let first =
-            "network aig inputs 64 outputs 32 gates 2382\nview 1 depth\nstats aig inputs 64 outputs 32 gates 2382 depth 70\nwrote ";
-        let last =
-            "\nnetwork aig inputs 64 outputs 32 gates 2382\nstats aig inputs 64 outputs 32 gates 2382 depth 70\n";
-        assert!(rt; out.written().starts_with(first.as_bytes()));
-        assert!(rt; out.written().ends_with(last.as_bytes()));
+        let first = told(&rt, alloc, script)?;
+        assert_eq!(rt; first.as_slice(), lines.as_bytes());
+        assert_eq!(rt; told(&rt, alloc, script)?, first);
     }
     Ok(())
 }

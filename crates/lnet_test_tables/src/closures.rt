@@ -4,7 +4,7 @@ use crate::laid::assert_used;
 use lnet_npn::table_of;
 use lnet_resyn::resyn::{Call, Resyn};
 use lnet_resyn::{Law, Proposal, shannon_proposal};
-use lnet_tables::Table;
+use lnet_tables::{Lit, Recipe, Table};
 use std::cell::Cell;
 use std::rc::Rc;
 use std::test::Fail;
@@ -20,17 +20,23 @@ fn stored_closures(rt: HostRuntime) -> Result<(), Fail> {
     Ok(())
 }
 
+/// A foreign closure may answer what no procedure does, here the complement of the first variable for the and of two and for their
+/// xor, so that what comes is known for its answer. Each question is one call.
 #[test]
 fn counted_calls(rt: HostRuntime) -> Result<(), Fail> {
     let asked = Rc::new(rt.alloc(), Cell::new(0u64))?;
     let count = asked.clone()?;
     let call: Call = Box::new(rt.alloc(), move |_: Table| {
         count.set(count.get().wrapping_add(1));
-        Proposal::None
+        let mut recipe = Recipe::new(4);
+        recipe.set_root(Lit(3));
+        Proposal::Use(recipe)
     })?;
     let resyn = Resyn::new("count".to_string(rt.alloc())?, 4, Law::Foreign, call);
-    assert!(rt; matches!(&resyn.propose(table_of(0x8888)), Proposal::None));
-    assert!(rt; matches!(&resyn.propose(table_of(0x6666)), Proposal::None));
+    assert_eq!(rt; asked.get(), 0);
+    assert_used(&rt, resyn.propose(table_of(0x8888)), &[], 3);
+    assert_eq!(rt; asked.get(), 1);
+    assert_used(&rt, resyn.propose(table_of(0x6666)), &[], 3);
     assert_eq!(rt; asked.get(), 2);
     Ok(())
 }

@@ -38,6 +38,8 @@ fn worked_majorities(rt: HostRuntime) {
 fn plain_proposals(rt: HostRuntime) {
     let xor = shannon_proposal(Table::from_words(2, [0x6; 16]));
     assert_used(&rt, xor, &[(StepOp::Xor, 4, 2, 0)], 6);
+    let majority = majority_proposal(Table::from_words(3, [0xe8; 16]));
+    assert_used(&rt, majority, &[(StepOp::Maj, 2, 4, 6)], 8);
     let whole = factor_proposal(rt.alloc(), Table::constant(3, true));
     assert_used(&rt, whole, &[], 1);
     // Variables 2 and 3, or variables 0 and 1.

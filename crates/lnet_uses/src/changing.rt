@@ -21,7 +21,7 @@ fn is_gate<G: Gates>(net: &Network<G>, n: Node) -> bool
 /// did; where it didn't, nothing changed.
 pub fn replace<G: Gates>(net: &mut Network<G>, n: Node, s: Signal) -> bool
     requires in_step { AreFitBy ⟦<dyn View as View>⟧ net.old.core.network net.old.core.room net.old.watch }
-    ensures replaced { result ≡ true → Substitutes G.KIND G.form net.old.core.network n.0 s net.new.core.network }
+    ensures replaced { result ≡ true → Substitutes G.KIND net.old.core.network n.0 s net.new.core.network }
     ensures same { result ≡ false → net.new ≡ net.old }
     ensures in_step { AreToldBy ⟦<dyn View as View>⟧ net.new.core.network net.new.core.room net.old.watch net.new.watch }
 {

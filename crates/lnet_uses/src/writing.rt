@@ -5,6 +5,7 @@ ghost use Rattle.lnet_gates.specs.declared.gate.Kind.TheVariants.{Aig};
 ghost use Rattle.lnet_edge.specs.declared.circuit.Rule.TheVariants.{And};
 ghost use Rattle.lnet_edge.specs.Plain.{IsPlain};
 ghost use Rattle.lnet_edge.specs.Values.{circuit_outputs};
+ghost use Rattle.lnet_edge.specs.Circuits.{circuit_limit};
 ghost use Rattle.lnet_model.specs.Values.{network_outputs};
 ghost use Rattle.lnet_aiger.specs.Texts.{IsWritable};
 ghost use Rattle.lnet_aiger.specs.Grammar as aiger;
@@ -25,7 +26,7 @@ fn circuit_of<G: Gates>(alloc: Global, net: &Network<G>) -> Result<Circuit, Allo
     ensures outputs { IfOk result (λ c. (a : ℕ → Bool) → circuit_outputs c a ≡ network_outputs net.now.core.network a) }
     ensures plain { IfOk result (λ c. IsPlain c.equations) }
     ensures ands { IfOk result (λ c. G.KIND ≡ Aig → All (λ e. e.rule ≡ And false) c.equations) }
-    ensures few { IfOk result (λ c. length c.inputs + length c.equations ≤ 1048576) }
+    ensures few { IfOk result (λ c. length c.inputs + length c.equations ≤ circuit_limit) }
 {
     let names = Names::unnamed(alloc, net.input_count(), net.output_count())?;
     export(alloc, net, &names)

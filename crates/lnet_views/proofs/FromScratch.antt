@@ -1,7 +1,6 @@
 -- Answers that are made from scratch, a gate after its fanins.
-use Rattle.std.proofs.Common.{◌≡◌, ◌≢◌, ℕ, ◌+◌, ◌*◌, ◌<◌, ◌≤◌, zero, suc, Bool, true, false, cond, List, [], ◌∷◌, ◌++◌, length, IsSome, Option, None, Some, refl, sym, ap, subst, ◌∙◌, inl, inr, arith, get_or, set, drop, get_or-set_same, get_or-set_other, length-set}
+use Rattle.std.proofs.Common.{◌≡◌, ◌≢◌, ℕ, ◌+◌, ◌*◌, ◌<◌, ◌≤◌, zero, suc, Bool, true, false, List, [], ◌∷◌, ◌++◌, length, IsSome, Option, None, Some, refl, sym, ap, subst, ◌∙◌, inl, inr, arith, get_or, set, drop, get_or-set_same, get_or-set_other, length-set}
 use Rattle.std.specs.Prelude.{◌⊎◌, is_some}
-use Rattle.std.proofs.lemmas.List.Sums.{sum_by-set}
 use Rattle.std.proofs.lemmas.Bool.Decides.{eqb_tells}
 use Rattle.lnet_gates.specs.declared.signal.Node.{Node}
 use Rattle.lnet_gates.specs.declared.signal.Signal.{Signal}
@@ -16,7 +15,7 @@ use Rattle.lnet_model.proofs.Over.{over-once}
 use Rattle.lnet_views.specs.Repair.{IsLawful, pair_step, pair_eq}
 use Rattle.lnet_views.specs.Rules.{rule_step, IsInStep}
 use Rattle.lnet_views.specs.Keeping.{at_level, answer, mark, height, IsSound, IsKept, scratch, level_or, kept_at}
-use Rattle.lnet_views.specs.Building.{undone, IsBuilding, bottom, Falls, AreTodo}
+use Rattle.lnet_views.specs.Building.{IsBuilding, bottom, Falls, AreTodo}
 use Rattle.lnet_views.proofs.Pair.{both, eqb-is, and-right, pair-lawful, pair-over}
 use Rattle.lnet_views.proofs.Steps.{dead-scratch, to-step}
 use Rattle.lnet_views.proofs.Repair.{once-like}
@@ -48,18 +47,6 @@ drop-all (x ∷ xs) (suc i) h m k = drop-all xs i (omega arith) m k
 -- while fanins are looked at: each so far has a level
 abbrev pub IsLooking : List (Option ℕ) → List Signal → ℕ → Type 0
 IsLooking levels ss i = (m : ℕ) → In m (nodes_read ss) → IsSome (get_or levels m None) ⊎ In m (nodes_read (drop i ss))
-
-pub looking-step : (levels : List (Option ℕ)) (ss : List Signal) (i : ℕ) (d : Signal) → i < length ss → IsLooking levels ss i → IsSome (get_or levels (get_or ss i d).node.0 None) → IsLooking levels ss (i + 1)
-looking-step levels ss i d h L done m k = elim (L m k) as (λ _. IsSome (get_or levels m None) ⊎ In m (nodes_read (drop (i + 1) ss))) [
-  | inl t ↦ inl t
-  | inr j ↦ elim (next-item ss i d h m j) as (λ _. IsSome (get_or levels m None) ⊎ In m (nodes_read (drop (i + 1) ss))) [
-    | inl e ↦ inl (subst (λ z. IsSome (get_or levels z None)) (sym e) done)
-    | inr n ↦ inr (let e : suc i ≡ i + 1 = omega arith in subst (λ z. In m (nodes_read (drop z ss))) e n)
-  ]
-]
-
-pub looking-end : (levels : List (Option ℕ)) (ss : List Signal) (i : ℕ) → length ss ≤ i → IsLooking levels ss i → (m : ℕ) → In m (nodes_read ss) → IsSome (get_or levels m None)
-looking-end levels ss i h L m k = elim (L m k) as (λ _. IsSome (get_or levels m None)) [ inl t ↦ t | inr j ↦ absurd (drop-all ss i h m j) ]
 
 pub in-items-of : (items ss : List Signal) → items ≡ ss → (i : ℕ) (d : Signal) → i < length items → In (get_or items i d).node.0 (nodes_read ss)
 in-items-of items ss e i d h = subst (λ z. In (get_or items i d).node.0 (nodes_read z)) e (in-item items i d h)
@@ -96,13 +83,6 @@ module _ {V : Type 0} (eq : V → V → Bool) (first : ℕ → V) (gives : ℕ �
 
     pub place-apart : (q : ℕ) → q ≢ n → get_or levels2 q None ≡ get_or levels q None
     place-apart q ne = ap (λ z. get_or z q None) ls ∙ get_or-set_other levels n q (Some l) None ne
-
-    pub place-undone : undone levels2 + 1 ≡ undone levels
-    place-undone =
-        let s = sum_by-set (λ (o : Option ℕ). cond (is_some o) 0 1) levels n (Some l) None inside in
-        let e = ap undone ls in
-        let f = ap (λ (o : Option ℕ). cond {A = ℕ} (is_some o) 0 1) todo in
-        omega arith
 
     pub place-building : ((m : ℕ) → IsParent N m n → IsSome (get_or levels m None)) → pair_eq eq (v, l) (once (entry_at N) (pair_step (rule_step first gives)) (first 0, 0) (answer (first 0) values levels) n) ≡ true → IsBuilding eq first gives N values2 levels2 waits2
     place-building known is = record {

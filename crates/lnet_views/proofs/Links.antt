@@ -156,9 +156,6 @@ raise-floor heads next levels floor C low empty = record {
   ];
 }
 
-pub none-wait : (heads next levels : List (Option ℕ)) (floor : ℕ) → AreChains heads next levels floor → length heads ≤ floor → (m : ℕ) → at levels m ≡ None
-none-wait heads next levels floor C past m = elim (at levels m) as (λ o. (at levels m ≡ o) → o ≡ None) [ None ↦ λ e. refl | Some k ↦ λ e. (let a = C.inside m k e in let b = C.above m k e in absurd (omega arith)) ] refl
-
 pub head-lowest : (heads next levels before : List (Option ℕ)) (floor n : ℕ) → AreChains heads next levels floor → floor < length heads → at heads floor ≡ Some n → levels ≡ before → IsLowest before n
 head-lowest heads next levels before floor n C low head same = subst (λ z. IsLowest z n) same (record {
   level = floor;

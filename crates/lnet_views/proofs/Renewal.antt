@@ -1,5 +1,5 @@
 -- A gate's answer made anew.
-use Rattle.std.proofs.Common.{◌≡◌, ◌≢◌, ℕ, ◌+◌, ◌<◌, max, Bool, true, false, List, [], ◌∷◌, length, map, IsSome, Option, None, Some, refl, sym, ap, subst, ◌∙◌, inl, inr, arith, get_or, set, get_or-set_same, get_or-set_other, length-set}
+use Rattle.std.proofs.Common.{◌≡◌, ◌≢◌, ℕ, ◌+◌, ◌<◌, max, Bool, true, false, List, [], ◌∷◌, length, map, IsSome, Option, None, Some, refl, sym, ap, subst, ◌∙◌, inl, inr, arith, get_or, set, get_or-set_same, get_or-set_other}
 use Rattle.std.specs.Prelude.{is_some}
 use Rattle.std.proofs.lemmas.Bool.Decides.{eqb_tells}
 use Rattle.lnet_gates.specs.declared.signal.Signal.{Signal}
@@ -56,22 +56,6 @@ module _ {V : Type 0} (none : V) (values : List V) (levels : List (Option ℕ)) 
 
     pub renewed-apart : (q : ℕ) → q ≢ n → answer none values2 levels2 q ≡ answer none values levels q
     renewed-apart q ne = (λ i. at_level none (get_or (vs i) q none) (get_or (ls i) q None)) ∙ (λ i. at_level none (get_or-set_other values n q v none ne i) (get_or-set_other levels n q (Some l) None ne i))
-
-    pub renewed-sound : (N : NetworkValue) (waits waits2 : List (Option ℕ)) → IsLive N n → n < length levels → waits2 ≡ waits → IsSound N values levels waits → IsSound N values2 levels2 waits2
-    renewed-sound N waits waits2 live il ws S =
-        let a = ap length vs ∙ length-set values n v in
-        let b = ap length ls ∙ length-set levels n (Some l) in
-        let c = ap length ws in
-        record {
-          levels_len = let d = S.levels_len in b ∙ d ∙ sym a;
-          waits_len = (let d = S.waits_len in omega arith);
-          room = λ m live. subst (λ z. m < z) (sym a) (S.room m live);
-          known = λ m live. subst (λ z. IsSome (get_or z m None)) (sym ls) (elim (eqb_tells m n) as (λ _. IsSome (get_or (set levels n (Some l)) m None)) [
-            | inl p ↦ subst IsSome (sym (ap (λ z. get_or (set levels n (Some l)) z None) p.1 ∙ get_or-set_same levels n (Some l) None il)) refl
-            | inr p ↦ subst IsSome (sym (get_or-set_other levels n m (Some l) None p.1)) (S.known m live)
-          ]);
-          dead = λ m d. ap (λ z. get_or z m None) ls ∙ get_or-set_other levels n m (Some l) None (λ e. let z : false ≡ true = subst IsSome (ap (entry_at N) (sym e) ∙ d) live in cc) ∙ S.dead m d;
-        }
 
 -- a gate's fanins are live
 pub fanin-live : (N : NetworkValue) (n : ℕ) (g : GateValue) → IsClosed N → entry_at N n ≡ Some (IsGate g) → (m : ℕ) → In m (map (λ (s : Signal). s.node.0) g.fanins) → IsLive N m

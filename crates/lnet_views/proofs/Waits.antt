@@ -25,11 +25,6 @@ none-here : (o : Option ℕ) → one o ≡ 0 → o ≡ None
 none-here None e = refl
 none-here (Some l) e = absurd (omega arith)
 
-pub none-waits : (xs : List (Option ℕ)) → waiting xs ≡ 0 → (m : ℕ) → at xs m ≡ None
-none-waits [] e m = refl
-none-waits (x ∷ xs) e zero = none-here x (let s = sum_by-cons one x xs in omega arith)
-none-waits (x ∷ xs) e (suc m) = none-waits xs (let s = sum_by-cons one x xs in omega arith) m
-
 zero-sum : (a b : ℕ) → a ≡ 0 → b ≡ 0 → a + b ≡ 0
 zero-sum a b e f = omega arith
 

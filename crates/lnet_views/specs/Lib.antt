@@ -5,4 +5,3 @@ pub mod Building
 pub mod Follows
 pub mod DepthViews
 pub mod Chains
-pub mod Leftmost

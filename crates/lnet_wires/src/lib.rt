@@ -2,6 +2,7 @@
 #![tactic(auto)]
 
 ghost use Rattle.std.specs.Prelude.{◌≡◌, ◌+◌, ◌<◌, ◌≤◌, [], length, IfOk, OnOk, OnErr};
+ghost use Rattle.lnet_edge.specs.Circuits.{wire_limit};
 ghost use Rattle.lnet_wires.specs.Naming.{with_name, wire_of};
 
 mod laws;
@@ -40,7 +41,7 @@ impl<'a> Wires<'a> {
     /// # Errors
     /// `AllocError` where memory runs out; nothing changes then.
     pub fn wire(&mut self, name: &'a [u8]) -> Result<u32, AllocError>
-        requires { length self.old < 4294967295 }
+        requires { length self.old < wire_limit }
         ensures number { IfOk result (λ w. w ≡ wire_of self.old name.now) }
         ensures seen { OnOk result (self.new ≡ with_name self.old name.now) }
         ensures few { OnOk result (length self.new ≤ length self.old + 1) }

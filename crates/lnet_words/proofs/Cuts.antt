@@ -7,7 +7,7 @@ use Rattle.std.proofs.lemmas.List.Splits.{slice_split_first}
 use Rattle.std.proofs.lemmas.List.Sums.{prefix_len-le-length}
 use Rattle.std.proofs.lemmas.Bool.{ltb-true}
 use Rattle.std.proofs.lemmas.Bool.Decides.{nat_tests}
-use Rattle.lnet_words.specs.Cutting.{parts, cut_of}
+use Rattle.lnet_words.specs.Cutting.{parts}
 
 -- the place where a list is cut
 place_is : (b : Bool) (n k : ℕ) → Some k ≡ cond b (Some n) None → (b ≡ true) × (n ≡ k)
@@ -42,10 +42,3 @@ uncut p bs e =
 
     end : {m n : ℕ} → ltb m n ≡ false → m ≤ n → m ≡ n
     end h l = grind (arith, nat_tests)
-
--- a cut, as the code takes it
-pub cut_is : (p : ℕ → Bool) (bs : List ℕ) (k : ℕ) → Some k ≡ position p bs → cut_of p bs ≡ (take k bs, Some (take (length bs - (k + 1)) (drop (k + 1) bs)))
-cut_is p bs k e = rw (← e, take_rest bs (k + 1)) refl
-
-pub no_cut : (p : ℕ → Bool) (bs : List ℕ) → None ≡ position p bs → cut_of p bs ≡ (bs, None)
-no_cut p bs e = rw (← e) refl

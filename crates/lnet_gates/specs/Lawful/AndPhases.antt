@@ -13,6 +13,7 @@ use Rattle.lnet_gates.specs.NormalLaws.{IsGateOf, IsNativeForm, AndsKeepPhase}
 use Rattle.lnet_gates.specs.Plans.{is_native, Takes}
 use Rattle.lnet_gates.specs.LutForms.{normal_lut, form_over, function_of, bound_of, support}
 use Rattle.lnet_gates.specs.Natives.{IsNativeGate, normal_by_op}
+use Rattle.lnet_gates.specs.Forms.{form_of}
 use Rattle.lnet_gates.specs.Lawful.AndLaws.{and-key_phase}
 use Rattle.lnet_gates.specs.Lawful.XorLaws.{xor_laws}
 use Rattle.lnet_gates.specs.Lawful.MajLaws.{maj_laws}
@@ -49,15 +50,6 @@ by_kind kind none g k phase n form is = at_op g.op g k phase refl (native_klut g
   native_klut Maj = refl
   native_klut (Lut t) = refl
 
-pub aig_phases : AndsKeepPhase (IsNativeGate Aig) normal_by_op
-aig_phases = by_kind Aig (λ t has. false≢true has)
-
-pub xag_phases : AndsKeepPhase (IsNativeGate Xag) normal_by_op
-xag_phases = by_kind Xag (λ t has. false≢true has)
-
-pub mig_phases : AndsKeepPhase (IsNativeGate Mig) normal_by_op
-mig_phases = by_kind Mig (λ t has. false≢true has)
-
 -- each key is a Lut
 abbrev IsLutKey : Normal → Type 0
 IsLutKey (Is s) = Unit {0}
@@ -68,7 +60,14 @@ lut_key f [] = tt
 lut_key f (n ∷ []) = tt
 lut_key f (n ∷ m ∷ ns) = (_, refl)
 
-pub klut_phases : AndsKeepPhase (IsNativeGate Klut) normal_lut
+klut_phases : AndsKeepPhase (IsNativeGate Klut) normal_lut
 klut_phases g k phase n form is =
     let key = subst IsLutKey form (lut_key (function_of g) (support (function_of g) (bound_of g.fanins))) in
     absurd (lut_apart k.op key.0 is key.1)
+
+-- in a network of each kind a key of an And is the form of an And gate alone, and has its phase
+pub kind_phases : (kind : Kind) → AndsKeepPhase (IsNativeGate kind) (form_of kind)
+kind_phases Aig = by_kind Aig (λ t has. false≢true has)
+kind_phases Xag = by_kind Xag (λ t has. false≢true has)
+kind_phases Mig = by_kind Mig (λ t has. false≢true has)
+kind_phases Klut = klut_phases

@@ -16,6 +16,7 @@ use Rattle.lnet_gates.specs.NormalLaws.{IsGateOf, NormalLaws, NamesOnly, IsNativ
 use Rattle.lnet_gates.specs.Plans.{is_native, Takes}
 use Rattle.lnet_gates.specs.Natives.{IsNativeGate, FitsWord, form_by_op, normal_by_op}
 use Rattle.lnet_gates.specs.LutForms.{HasCount, IsLutGate, normal_lut}
+use Rattle.lnet_gates.specs.Forms.{form_of}
 use Rattle.lnet_gates.specs.Lawful.FormLaws.{carried-carried}
 use Rattle.lnet_gates.specs.Lawful.AndLaws.{and_laws}
 use Rattle.lnet_gates.specs.Lawful.XorLaws.{xor_laws}
@@ -63,8 +64,8 @@ module _ (kind : Kind) (op : Op) (count : ℕ) (normal : GateValue → Normal) (
   }
 
 -- the laws of a kind, from those at each of its gates
-kind_laws : (kind : Kind) → ((g : GateValue) → IsNativeGate kind g → LawsAt kind g) → NormalLaws (IsNativeGate kind) normal_by_op
-kind_laws kind at = record {
+laws_from : (kind : Kind) → ((g : GateValue) → IsNativeGate kind g → LawsAt kind g) → NormalLaws (IsNativeGate kind) normal_by_op
+laws_from kind at = record {
   value = λ V g zero_false n. let l = at g n in l.value V zero_false;
   names = λ g n. let l = at g n in l.names;
   native = λ g n. let l = at g n in l.native;
@@ -118,15 +119,6 @@ mig_at Xor g e has takes = absurd (false≢true has)
 mig_at Maj g e has takes = maj_in Mig refl g (record { op_is = e; count_is = takes })
 mig_at (Lut t) g e has takes = absurd (false≢true has)
 
-pub aig_laws : NormalLaws (IsNativeGate Aig) normal_by_op
-aig_laws = kind_laws Aig (λ g n. aig_at g.op g refl n.has n.takes)
-
-pub xag_laws : NormalLaws (IsNativeGate Xag) normal_by_op
-xag_laws = kind_laws Xag (λ g n. xag_at g.op g refl n.has n.takes)
-
-pub mig_laws : NormalLaws (IsNativeGate Mig) normal_by_op
-mig_laws = kind_laws Mig (λ g n. mig_at g.op g refl n.has n.takes)
-
 -- ---- look-up tables
 -- the gates of a network of look-up tables, by their operation
 lut_gate : (op : Op) (n : ℕ) → Takes op n → FitsWord op → HasCount op n
@@ -147,7 +139,7 @@ to_lut g n = lut_gate g.op (length g.fanins) n.takes n.fits
 from_lut : (g : GateValue) → IsLutGate g → IsNativeGate Klut g
 from_lut g h = let n = lut_native g.op (length g.fanins) h in record { has = n.0; takes = n.1; fits = n.2 }
 
-pub klut_laws : NormalLaws (IsNativeGate Klut) normal_lut
+klut_laws : NormalLaws (IsNativeGate Klut) normal_lut
 klut_laws = record {
   value = λ V g zero_false n. lut_laws.value V g zero_false (to_lut g n);
   names = λ g n. lut_laws.names g (to_lut g n);
@@ -156,3 +148,10 @@ klut_laws = record {
   carries = λ c g. lut_laws.carries c g;
   agrees = λ place g kept n. lut_laws.agrees place g kept (to_lut g n);
 }
+
+-- the normal forms of each kind have the laws
+pub kind_laws : (kind : Kind) → NormalLaws (IsNativeGate kind) (form_of kind)
+kind_laws Aig = laws_from Aig (λ g n. aig_at g.op g refl n.has n.takes)
+kind_laws Xag = laws_from Xag (λ g n. xag_at g.op g refl n.has n.takes)
+kind_laws Mig = laws_from Mig (λ g n. mig_at g.op g refl n.has n.takes)
+kind_laws Klut = klut_laws

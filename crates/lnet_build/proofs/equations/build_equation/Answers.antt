@@ -14,6 +14,6 @@ build_rule-requires-clause-live g c =
 
 pub returns-in-Ok-insert-clause-built : goal.returns-in-Ok-insert-clause-built
 returns-in-Ok-insert-clause-built g c =
-    equation-built g.G.Gates.KIND g.G.Gates.form c.args.net.now.core.network c.build_rule.new.net.core.network c.args.signals.now c.insert.new.self (equation_view c.args.equation.now) c.deref.result.now c.in_ok-signal.signal
+    equation-built g.G.Gates.KIND c.args.net.now.core.network c.build_rule.new.net.core.network c.args.signals.now c.insert.new.self (equation_view c.args.equation.now) c.deref.result.now c.in_ok-signal.signal
     (c.deref.ensures.value ∙ c.in-Ok.ensures ∙ ap (map (read_in c.args.signals.now)) c.as_slice.ensures)
     c.in_ok-signal.ensures.built c.in-Ok-insert.ensures.updates

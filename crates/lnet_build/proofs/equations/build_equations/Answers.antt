@@ -19,7 +19,7 @@ build_equation-requires-clause-arity g c = arity-at c.args.equations.now _ c.ind
 pub returns-in_err-build_equation-clause-full : goal.returns-in_err-build_equation-clause-full
 returns-in_err-build_equation-clause-full g c past b h =
     let r = c.loop-place.invariant.reached b h in
-    places-full g.G.Gates.KIND g.G.Gates.form c.args.equations.now c.args.order.now c.loop-place.place-index c.loop-place-test.true c.index-equations-place.result (c.requires.within c.loop-place.place-index 0 c.loop-place-test.true) c.index-equations-place.is r.0 _ r.2 (c.build_equation.ensures.full (search rules) r.0 r.1)
+    places-full g.G.Gates.KIND c.args.equations.now c.args.order.now c.loop-place.place-index c.loop-place-test.true c.index-equations-place.result (c.requires.within c.loop-place.place-index 0 c.loop-place-test.true) c.index-equations-place.is r.0 _ r.2 (c.build_equation.ensures.full (search rules) r.0 r.1)
 
 pub loop-place-preserved : goal.loop-place-preserved
 loop-place-preserved g c = record {
@@ -27,14 +27,14 @@ loop-place-preserved g c = record {
   none = c.build_equation.ensures.none;
   reached = λ b h.
       let r = c.loop-place.invariant.reached b h in
-      (with_equation g.G.Gates.KIND g.G.Gates.form r.0 (equation_view c.index-equations-place.result), c.in_ok-build_equation.ensures.built r.0 r.1, places-next g.G.Gates.KIND g.G.Gates.form c.args.equations.now c.args.order.now c.loop-place.place-index c.loop-place-test.true c.index-equations-place.result (c.requires.within c.loop-place.place-index 0 c.loop-place-test.true) c.index-equations-place.is r.0 _ r.2);
+      (with_equation g.G.Gates.KIND r.0 (equation_view c.index-equations-place.result), c.in_ok-build_equation.ensures.built r.0 r.1, places-next g.G.Gates.KIND c.args.equations.now c.args.order.now c.loop-place.place-index c.loop-place-test.true c.index-equations-place.result (c.requires.within c.loop-place.place-index 0 c.loop-place-test.true) c.index-equations-place.is r.0 _ r.2);
   words = words-next c.args.equations.now c.args.order.now c.loop-place.place-index c.index-equations-place.result (c.requires.within c.loop-place.place-index 0 c.loop-place-test.true) c.index-equations-place.is c.loop-place-test.true c.loop-place.invariant.words c.in_ok-build_equation.ensures.word;
 }
 
 pub returns-clause-built : goal.returns-clause-built
 returns-clause-built g c b h =
     let r = c.loop-place.invariant.reached b h in
-    subst (Stand c.loop-place.net.core.network c.loop-place.signals) (sym (places-end g.G.Gates.KIND g.G.Gates.form (equation_views c.args.equations.now) c.args.order.now c.loop-place.place-index c.loop-place-test.false r.0 _ r.2)) r.1
+    subst (Stand c.loop-place.net.core.network c.loop-place.signals) (sym (places-end g.G.Gates.KIND (equation_views c.args.equations.now) c.args.order.now c.loop-place.place-index c.loop-place-test.false r.0 _ r.2)) r.1
 
 pub returns-clause-words : goal.returns-clause-words
 returns-clause-words g c k d low = c.loop-place.invariant.words k d (let past = c.loop-place-test.false in omega arith)

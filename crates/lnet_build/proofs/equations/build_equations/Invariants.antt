@@ -9,6 +9,6 @@ abbrev pub invariant-loop-place : goal.invariant-loop-place
 invariant-loop-place g l = record {
   live : AreSignalsLive l.net.core.network l.signals;
   none : IsBare l.net.watch;
-  reached : (b : Building) → Stand l.initial.net.core.network l.initial.signals b → (x : Building) × Stand l.net.core.network l.signals x × (with_places g.G.Gates.KIND g.G.Gates.form (equation_views l.equations) x (drop l.place-index l.order) ≡ with_places g.G.Gates.KIND g.G.Gates.form (equation_views l.equations) b l.order);
+  reached : (b : Building) → Stand l.initial.net.core.network l.initial.signals b → (x : Building) × Stand l.net.core.network l.signals x × (with_places g.G.Gates.KIND (equation_views l.equations) x (drop l.place-index l.order) ≡ with_places g.G.Gates.KIND (equation_views l.equations) b l.order);
   words : (j d : ℕ) → j < l.place-index → FitsPlace (equation_views l.equations) (get_or l.order j d);
 }

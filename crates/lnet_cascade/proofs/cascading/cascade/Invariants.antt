@@ -7,7 +7,7 @@ use Rattle.lnet_cascade.proofs.cascading.cascade.Given as goal
 
 abbrev pub invariant-gates : goal.invariant-gates
 invariant-gates g l = record {
-  goes_on : GoesOn g.G.Gates.KIND g.G.Gates.form l.fn.hashed.store.network l.fn.hashed.keys.dirty.items l.hashed.store.network l.hashed.keys.dirty.items;
+  goes_on : GoesOn g.G.Gates.KIND l.fn.hashed.store.network l.fn.hashed.keys.dirty.items l.hashed.store.network l.hashed.keys.dirty.items;
   gates : OnlyGates l.hashed.store.network l.hashed.keys.dirty.items;
   midway : StaysMidway l.fn.hashed l.hashed;
   long : length l.hashed.keys.dirty.items ≡ length l.fn.hashed.keys.dirty.items;

@@ -21,17 +21,17 @@ use Rattle.lnet_cascade.proofs.cascading.settle.Goals as goal
 pub set_gate-old-requires-clause-arity : goal.set_gate-old-requires-clause-arity
 set_gate-old-requires-clause-arity g c =
     let f = c.requires.form in
-    subst (λ (h : GateValue). Takes h.op (length h.fanins)) (sym c.gate_of.ensures) (settled-native g.G.Gates.KIND g.G.Gates.form g.met.G.Gates.laws c.args.hashed.now.store.network c.live_count-live.ensures.stored c.args.hashed.now.keys.dirty.items c.requires.begun c.args.n.0 c.requires.dirty f.0 f.1 c.args.key c.args.phase f.2).takes
+    subst (λ (h : GateValue). Takes h.op (length h.fanins)) (sym c.gate_of.ensures) (settled-native g.G.Gates.KIND c.args.hashed.now.store.network c.live_count-live.ensures.stored c.args.hashed.now.keys.dirty.items c.requires.begun c.args.n.0 c.requires.dirty f.0 f.1 c.args.key c.args.phase f.2).takes
 
 pub set_gate-old-requires-clause-live : goal.set_gate-old-requires-clause-live
 set_gate-old-requires-clause-live g c =
     let f = c.requires.form in
-    subst (λ (h : GateValue). AreLive c.args.hashed.now.store.network (nodes_read h.fanins)) (sym c.gate_of.ensures) (settled-live g.G.Gates.KIND g.G.Gates.form g.met.G.Gates.laws c.args.hashed.now.store.network c.live_count-live.ensures.stored c.args.hashed.now.keys.dirty.items c.requires.begun c.args.n.0 c.requires.dirty f.0 f.1 c.args.key c.args.phase f.2)
+    subst (λ (h : GateValue). AreLive c.args.hashed.now.store.network (nodes_read h.fanins)) (sym c.gate_of.ensures) (settled-live g.G.Gates.KIND c.args.hashed.now.store.network c.live_count-live.ensures.stored c.args.hashed.now.keys.dirty.items c.requires.begun c.args.n.0 c.requires.dirty f.0 f.1 c.args.key c.args.phase f.2)
 
 pub set_gate-old-requires-clause-free : goal.set_gate-old-requires-clause-free
 set_gate-old-requires-clause-free g c =
     let f = c.requires.form in
-    subst (λ (h : GateValue). (m : ℕ) → In m (nodes_read h.fanins) → Reaches c.args.hashed.now.store.network m c.args.n.0 → ⊥) (sym c.gate_of.ensures) (settled-free g.G.Gates.KIND g.G.Gates.form g.met.G.Gates.laws c.args.hashed.now.store.network c.live_count-live.ensures.stored c.args.hashed.now.keys.dirty.items c.requires.begun c.args.n.0 c.requires.dirty f.0 f.1 c.args.key c.args.phase f.2)
+    subst (λ (h : GateValue). (m : ℕ) → In m (nodes_read h.fanins) → Reaches c.args.hashed.now.store.network m c.args.n.0 → ⊥) (sym c.gate_of.ensures) (settled-free g.G.Gates.KIND c.args.hashed.now.store.network c.live_count-live.ensures.stored c.args.hashed.now.keys.dirty.items c.requires.begun c.args.n.0 c.requires.dirty f.0 f.1 c.args.key c.args.phase f.2)
 
 pub enter-requires-clause-marked : goal.enter-requires-clause-marked
 enter-requires-clause-marked g c = inside c.args.hashed.now.keys.dirty.items c.args.n.0 c.requires.dirty
@@ -65,14 +65,14 @@ pub returns-clause-goes_on : goal.returns-clause-goes_on
 returns-clause-goes_on g c =
     let f = c.requires.form in
     let is = c.set_gate-old.ensures.network ∙ ap (λ (h : GateValue). with_entry c.args.hashed.now.store.network c.args.n.0 (IsGate h)) c.gate_of.ensures in
-    subst (GoesOn g.G.Gates.KIND g.G.Gates.form c.args.hashed.now.store.network c.args.hashed.now.keys.dirty.items c.set_gate-old.new.self.network) (sym c.enter.ensures.dirty)
-    (settled-goes_on g.G.Gates.KIND g.G.Gates.form g.met.G.Gates.laws c.args.hashed.now.store.network c.live_count-live.ensures.stored c.args.hashed.now.keys.dirty.items c.requires.begun c.args.n.0 c.requires.dirty f.0 f.1 c.args.key c.args.phase f.2 c.set_gate-old.new.self.network is g.met.G.Gates.and_phase c.requires.unused)
+    subst (GoesOn g.G.Gates.KIND c.args.hashed.now.store.network c.args.hashed.now.keys.dirty.items c.set_gate-old.new.self.network) (sym c.enter.ensures.dirty)
+    (settled-goes_on g.G.Gates.KIND c.args.hashed.now.store.network c.live_count-live.ensures.stored c.args.hashed.now.keys.dirty.items c.requires.begun c.args.n.0 c.requires.dirty f.0 f.1 c.args.key c.args.phase f.2 c.set_gate-old.new.self.network is c.requires.unused)
 
 pub returns-clause-gates : goal.returns-clause-gates
 returns-clause-gates g c =
     let f = c.requires.form in
     let is = c.set_gate-old.ensures.network ∙ ap (λ (h : GateValue). with_entry c.args.hashed.now.store.network c.args.n.0 (IsGate h)) c.gate_of.ensures in
-    subst (OnlyGates c.set_gate-old.new.self.network) (sym c.enter.ensures.dirty) (settled-gates g.G.Gates.KIND g.G.Gates.form g.met.G.Gates.laws c.args.hashed.now.store.network c.live_count-live.ensures.stored c.args.hashed.now.keys.dirty.items c.requires.begun c.args.n.0 c.requires.dirty f.0 f.1 c.args.key c.args.phase f.2 c.set_gate-old.new.self.network is c.requires.gates)
+    subst (OnlyGates c.set_gate-old.new.self.network) (sym c.enter.ensures.dirty) (settled-gates g.G.Gates.KIND c.args.hashed.now.store.network c.live_count-live.ensures.stored c.args.hashed.now.keys.dirty.items c.requires.begun c.args.n.0 c.requires.dirty f.0 f.1 c.args.key c.args.phase f.2 c.set_gate-old.new.self.network is c.requires.gates)
 
 pub returns-clause-less : goal.returns-clause-less
 returns-clause-less g c =

@@ -2,8 +2,6 @@ use Rattle.std.proofs.Common.{ℕ, sym, subst, ◌∙◌, arith}
 use Rattle.lnet_cascade.specs.Losing.{AreNoted}
 use Rattle.lnet_gates.specs.declared.signal.Signal.{Signal}
 use Rattle.lnet_gates.specs.declared.gate.Kind.{Kind}
-use Rattle.lnet_gates.specs.declared.normal.Normal.{Normal}
-use Rattle.lnet_gates.specs.Gates.{GateValue}
 use Rattle.lnet_model.specs.Networks.{NetworkValue, IsLive}
 use Rattle.lnet_model.specs.Along.{Depends}
 use Rattle.lnet_model.specs.Changes.{IsGateAt}
@@ -18,9 +16,9 @@ use Rattle.lnet_substitution.proofs.Substituted.{substituted-IsStrashed}
 use Rattle.lnet_cascade.proofs.substituting.substitute.Goals as goal
 
 can :
-    (kind : Kind) (form : GateValue → Normal) (N : NetworkValue) (o : ℕ) (s : Signal) → IsStored N → IsStrashed kind form N → IsGateAt N o → IsLive N s.node.0 → (Depends N s o → ⊥) →
-    CanSubstitute kind form N o s
-can kind form N o s stored strashed gate live free = record { acyclic = stored.dag.acyclic; whole = stored.whole; strashed = strashed; gate = gate; live = live; free = free }
+    (kind : Kind) (N : NetworkValue) (o : ℕ) (s : Signal) → IsStored N → IsStrashed kind N → IsGateAt N o → IsLive N s.node.0 → (Depends N s o → ⊥) →
+    CanSubstitute kind N o s
+can kind N o s stored strashed gate live free = record { acyclic = stored.dag.acyclic; whole = stored.whole; strashed = strashed; gate = gate; live = live; free = free }
 
 pub note_named-requires : goal.note_named-requires
 note_named-requires g c =
@@ -35,24 +33,24 @@ cascade-requires-clause-begun g c =
       N,
       c.args.gate.0,
       c.args.signal,
-      (can g.G.Gates.KIND g.G.Gates.form c.args.hashed.now.store.network c.args.gate.0 c.args.signal c.numbers-end.ensures.stored c.requires.strashed c.requires.gate c.requires.live c.requires.free),
-      begins g.G.Gates.KIND g.G.Gates.form g.met.G.Gates.laws N c.args.gate.0 c.args.signal
-          (can g.G.Gates.KIND g.G.Gates.form N c.args.gate.0 c.args.signal c.numbers-end.ensures.stored c.requires.strashed c.requires.gate c.requires.live c.requires.free)
+      (can g.G.Gates.KIND c.args.hashed.now.store.network c.args.gate.0 c.args.signal c.numbers-end.ensures.stored c.requires.strashed c.requires.gate c.requires.live c.requires.free),
+      begins g.G.Gates.KIND N c.args.gate.0 c.args.signal
+          (can g.G.Gates.KIND N c.args.gate.0 c.args.signal c.numbers-end.ensures.stored c.requires.strashed c.requires.gate c.requires.live c.requires.free)
           c.numbers-end.ensures.stored (slice_set c.args.hashed.now.keys.dirty.items c.args.gate.0 false) (clear-set c.args.hashed.now.keys.dirty.items c.args.gate.0 c.requires.room.clean)
           c.replace.new.hashed.store.network c.replace.ensures.network c.replace.new.hashed.keys.dirty.items c.replace.ensures.dirty,
     )
 
 pub cascade-requires-clause-gates : goal.cascade-requires-clause-gates
 cascade-requires-clause-gates g c =
-    begins-gates g.G.Gates.KIND g.G.Gates.form g.met.G.Gates.laws c.args.hashed.now.store.network c.args.gate.0 c.args.signal
-    (can g.G.Gates.KIND g.G.Gates.form c.args.hashed.now.store.network c.args.gate.0 c.args.signal c.numbers-end.ensures.stored c.requires.strashed c.requires.gate c.requires.live c.requires.free)
+    begins-gates g.G.Gates.KIND c.args.hashed.now.store.network c.args.gate.0 c.args.signal
+    (can g.G.Gates.KIND c.args.hashed.now.store.network c.args.gate.0 c.args.signal c.numbers-end.ensures.stored c.requires.strashed c.requires.gate c.requires.live c.requires.free)
     c.numbers-end.ensures.stored (slice_set c.args.hashed.now.keys.dirty.items c.args.gate.0 false) (clear-set c.args.hashed.now.keys.dirty.items c.args.gate.0 c.requires.room.clean)
     c.replace.new.hashed.store.network c.replace.ensures.network c.replace.new.hashed.keys.dirty.items c.replace.ensures.dirty
 
 pub sweep_lost-requires-clause-below : goal.sweep_lost-requires-clause-below
 sweep_lost-requires-clause-below g c =
-    ends-below g.G.Gates.KIND g.G.Gates.form g.met.G.Gates.laws c.args.hashed.now.store.network c.args.gate.0 c.args.signal
-    (can g.G.Gates.KIND g.G.Gates.form c.args.hashed.now.store.network c.args.gate.0 c.args.signal c.numbers-end.ensures.stored c.requires.strashed c.requires.gate c.requires.live c.requires.free)
+    ends-below g.G.Gates.KIND c.args.hashed.now.store.network c.args.gate.0 c.args.signal
+    (can g.G.Gates.KIND c.args.hashed.now.store.network c.args.gate.0 c.args.signal c.numbers-end.ensures.stored c.requires.strashed c.requires.gate c.requires.live c.requires.free)
     c.numbers-end.ensures.stored (slice_set c.args.hashed.now.keys.dirty.items c.args.gate.0 false) (clear-set c.args.hashed.now.keys.dirty.items c.args.gate.0 c.requires.room.clean)
     c.replace.new.hashed.store.network c.replace.ensures.network c.replace.new.hashed.keys.dirty.items c.replace.ensures.dirty
     c.cascade.new.hashed.store.network c.cascade.new.hashed.keys.dirty.items c.cascade.ensures.goes_on c.numbers-end.result
@@ -60,8 +58,8 @@ sweep_lost-requires-clause-below g c =
 
 pub returns-clause-substitutes : goal.returns-clause-substitutes
 returns-clause-substitutes g c =
-    substitutes g.G.Gates.KIND g.G.Gates.form g.met.G.Gates.laws c.args.hashed.now.store.network c.args.gate.0 c.args.signal
-    (can g.G.Gates.KIND g.G.Gates.form c.args.hashed.now.store.network c.args.gate.0 c.args.signal c.numbers-end.ensures.stored c.requires.strashed c.requires.gate c.requires.live c.requires.free)
+    substitutes g.G.Gates.KIND c.args.hashed.now.store.network c.args.gate.0 c.args.signal
+    (can g.G.Gates.KIND c.args.hashed.now.store.network c.args.gate.0 c.args.signal c.numbers-end.ensures.stored c.requires.strashed c.requires.gate c.requires.live c.requires.free)
     c.numbers-end.ensures.stored (slice_set c.args.hashed.now.keys.dirty.items c.args.gate.0 false) (clear-set c.args.hashed.now.keys.dirty.items c.args.gate.0 c.requires.room.clean)
     c.replace.new.hashed.store.network c.replace.ensures.network c.replace.new.hashed.keys.dirty.items c.replace.ensures.dirty
     c.cascade.new.hashed.store.network c.cascade.new.hashed.keys.dirty.items c.cascade.ensures.goes_on c.numbers-end.result
@@ -72,6 +70,6 @@ returns-clause-substitutes g c =
 
 pub returns-clause-strashed : goal.returns-clause-strashed
 returns-clause-strashed g c =
-    substituted-IsStrashed g.G.Gates.KIND g.G.Gates.form g.met.G.Gates.laws c.args.hashed.now.store.network c.args.gate.0 c.args.signal
-    (can g.G.Gates.KIND g.G.Gates.form c.args.hashed.now.store.network c.args.gate.0 c.args.signal c.numbers-end.ensures.stored c.requires.strashed c.requires.gate c.requires.live c.requires.free)
+    substituted-IsStrashed g.G.Gates.KIND c.args.hashed.now.store.network c.args.gate.0 c.args.signal
+    (can g.G.Gates.KIND c.args.hashed.now.store.network c.args.gate.0 c.args.signal c.numbers-end.ensures.stored c.requires.strashed c.requires.gate c.requires.live c.requires.free)
     c.sweep_lost.new.hashed.store.network (returns-clause-substitutes g c)

@@ -16,14 +16,14 @@ as-placed N s = record { network = N; signal = s }
 
 pub returns-in-Err-clause-full : goal.returns-in-Err-clause-full
 returns-in-Err-clause-full g c e =
-    let next = ap (λ ss. live_count (laid_steps g.G.Gates.form ss c.loop-i.hashed.store.network c.loop-i.laying.places.items).network) (steps-from c.args.recipe.now.steps c.loop-i.i c.step-step.result c.step-step.ensures.value) in
+    let next = ap (λ ss. live_count (laid_steps g.G.Gates.KIND ss c.loop-i.hashed.store.network c.loop-i.laying.places.items).network) (steps-from c.args.recipe.now.steps c.loop-i.i c.step-step.result c.step-step.ensures.value) in
     let all = ap (λ (l : Laid). live_count l.network) c.loop-i.invariant.laid in
     let full = c.lay_step.ensures.full (c.in-Err.is ∙ ap Err (error-same e)) (drop (c.loop-i.i + 1) c.args.recipe.now.steps) in
     omega arith
 
 pub returns-in-Err-clause-memory : goal.returns-in-Err-clause-memory
 returns-in-Err-clause-memory g c e =
-    let next = ap (λ ss. live_count (laid_steps g.G.Gates.form ss c.loop-i.hashed.store.network c.loop-i.laying.places.items).network) (steps-from c.args.recipe.now.steps c.loop-i.i c.step-step.result c.step-step.ensures.value) in
+    let next = ap (λ ss. live_count (laid_steps g.G.Gates.KIND ss c.loop-i.hashed.store.network c.loop-i.laying.places.items).network) (steps-from c.args.recipe.now.steps c.loop-i.i c.step-step.result c.step-step.ensures.value) in
     let all = ap (λ (l : Laid). live_count l.network) c.loop-i.invariant.laid in
     let grows = c.loop-i.invariant.grows in
     let want = c.lay_step.ensures.memory (c.in-Err.is ∙ ap Err (error-same e)) (drop (c.loop-i.i + 1) c.args.recipe.now.steps) in
@@ -31,7 +31,7 @@ returns-in-Err-clause-memory g c e =
 
 pub loop-i-preserved : goal.loop-i-preserved
 loop-i-preserved g c =
-    let next = ap (λ ss. laid_steps g.G.Gates.form ss c.loop-i.hashed.store.network c.loop-i.laying.places.items) (steps-from c.args.recipe.now.steps c.loop-i.i c.step-step.result c.step-step.ensures.value) in
+    let next = ap (λ ss. laid_steps g.G.Gates.KIND ss c.loop-i.hashed.store.network c.loop-i.laying.places.items) (steps-from c.args.recipe.now.steps c.loop-i.i c.step-step.result c.step-step.ensures.value) in
     let few = c.loop-i.invariant.few in
     let more = c.lay_step.ensures.few in
     let places = c.in_default.ensures.places in
@@ -54,8 +54,8 @@ pub returns-clause-laid : goal.returns-clause-laid
 returns-clause-laid g c =
     let len = c.len-i-end.ensures.value in
     let test = c.loop-i-test.false in
-    let end = sym c.loop-i.invariant.laid ∙ laid_none g.G.Gates.form c.args.recipe.now.steps c.loop-i.i c.loop-i.hashed.store.network c.loop-i.laying.places.items (omega arith) in
+    let end = sym c.loop-i.invariant.laid ∙ laid_none g.G.Gates.KIND c.args.recipe.now.steps c.loop-i.i c.loop-i.hashed.store.network c.loop-i.laying.places.items (omega arith) in
     let signal : signal_at c.loop-i.laying.places.items c.args.recipe.now.root ≡ c.signal_at.result =
     ap (λ ps. signal_at ps c.args.recipe.now.root) (sym c.as_slice.ensures.value) ∙ ap (signal_at c.as_slice.result.now) (sym c.root.ensures.value) ∙ sym c.signal_at.ensures in
-    laid_done g.G.Gates.form c.args.hashed.now.store.network c.loop-i.hashed.store.network c.args.recipe.now c.args.leaves.now c.loop-i.laying.places.items end
+    laid_done g.G.Gates.KIND c.args.hashed.now.store.network c.loop-i.hashed.store.network c.args.recipe.now c.args.leaves.now c.loop-i.laying.places.items end
     ∙ ap (as-placed c.loop-i.hashed.store.network) signal

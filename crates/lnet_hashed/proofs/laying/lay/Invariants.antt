@@ -10,7 +10,7 @@ use Rattle.lnet_hashed.proofs.laying.lay.Given as goal
 
 abbrev pub invariant-loop-i : goal.invariant-loop-i
 invariant-loop-i g l = record {
-  laid : laid_steps g.G.Gates.form (drop l.i l.recipe.steps) l.hashed.store.network l.laying.places.items ≡ laid_steps g.G.Gates.form l.recipe.steps l.initial.hashed.store.network (constant false ∷ l.leaves);
+  laid : laid_steps g.G.Gates.KIND (drop l.i l.recipe.steps) l.hashed.store.network l.laying.places.items ≡ laid_steps g.G.Gates.KIND l.recipe.steps l.initial.hashed.store.network (constant false ∷ l.leaves);
   live : AreLive l.hashed.store.network (nodes_read l.laying.places.items);
   undoable : IsUndoable (reverse l.laying.added.items) l.hashed.store.network;
   undone_is : undone (reverse l.laying.added.items) l.hashed.store.network ≡ l.initial.hashed.store.network;

@@ -21,9 +21,9 @@ place_noting-requires-clause-live g c =
 pub returns-in-Ok-clause-laid : goal.returns-in-Ok-clause-laid
 returns-in-Ok-clause-laid g c ss =
     let same : c.step_gate-gate.result ≡ step_gate c.args.laying.now.places.items c.args.step.now = c.step_gate-gate.ensures ∙ ap (λ ps. step_gate ps c.args.step.now) c.as_slice.ensures.value in
-    let is = ap (placed g.G.Gates.form c.args.hashed.now.store.network) (sym same) ∙ c.in-Ok.ensures.placed in
-    step-laid g.G.Gates.form c.args.step.now ss c.args.hashed.now.store.network c.args.laying.now.places.items (record { network = c.place_noting.new.hashed.store.network; signal = c.in-Ok.signal }) is
-    ∙ ap (laid_steps g.G.Gates.form ss c.place_noting.new.hashed.store.network) (sym c.push.ensures.items)
+    let is = ap (placed g.G.Gates.KIND c.args.hashed.now.store.network) (sym same) ∙ c.in-Ok.ensures.placed in
+    step-laid g.G.Gates.KIND c.args.step.now ss c.args.hashed.now.store.network c.args.laying.now.places.items (record { network = c.place_noting.new.hashed.store.network; signal = c.in-Ok.signal }) is
+    ∙ ap (laid_steps g.G.Gates.KIND ss c.place_noting.new.hashed.store.network) (sym c.push.ensures.items)
 
 pub returns-in-Ok-clause-live : goal.returns-in-Ok-clause-live
 returns-in-Ok-clause-live g c =
@@ -33,15 +33,15 @@ returns-in-Ok-clause-live g c =
 pub returns-in-Err-clause-full : goal.returns-in-Err-clause-full
 returns-in-Err-clause-full g c e ss =
     let same : c.step_gate-gate.result ≡ step_gate c.args.laying.now.places.items c.args.step.now = c.step_gate-gate.ensures ∙ ap (λ ps. step_gate ps c.args.step.now) c.as_slice.ensures.value in
-    let count = ap (λ x. live_count (placed g.G.Gates.form c.args.hashed.now.store.network x).network) same in
-    let within = step-within g.G.Gates.form c.args.step.now ss c.args.hashed.now.store.network c.args.laying.now.places.items in
+    let count = ap (λ x. live_count (placed g.G.Gates.KIND c.args.hashed.now.store.network x).network) same in
+    let within = step-within g.G.Gates.KIND c.args.step.now ss c.args.hashed.now.store.network c.args.laying.now.places.items in
     let full = c.place_noting.ensures.full (c.in-Err.is ∙ ap Err (error-same e)) in
     omega arith
 
 pub returns-in-Err-clause-memory : goal.returns-in-Err-clause-memory
 returns-in-Err-clause-memory g c e ss =
     let same : c.step_gate-gate.result ≡ step_gate c.args.laying.now.places.items c.args.step.now = c.step_gate-gate.ensures ∙ ap (λ ps. step_gate ps c.args.step.now) c.as_slice.ensures.value in
-    let count = ap (λ x. live_count (placed g.G.Gates.form c.args.hashed.now.store.network x).network) same in
-    let within = step-within g.G.Gates.form c.args.step.now ss c.args.hashed.now.store.network c.args.laying.now.places.items in
+    let count = ap (λ x. live_count (placed g.G.Gates.KIND c.args.hashed.now.store.network x).network) same in
+    let within = step-within g.G.Gates.KIND c.args.step.now ss c.args.hashed.now.store.network c.args.laying.now.places.items in
     let full = c.place_noting.ensures.memory (c.in-Err.is ∙ ap Err (error-same e)) in
     omega arith

@@ -8,7 +8,7 @@ use Rattle.lnet_resyn.proofs.majority.agreements.Goals as goal
 
 pub returns-clause-value : goal.returns-clause-value
 returns-clause-value c =
-    ap (λ m. count_ones (bit_and (bit_not w64 (bit_xor c.args.target c.args.word)) m)) c.row_mask.ensures
+    ap (λ m. count_ones (bit_and (bit_not w64 (bit_xor c.args.target c.args.word)) m)) c.first_rows.ensures.value
     ∙ agreed c.args.vars c.args.target c.args.word c.requires.few (xor_lt 64 c.args.target c.args.word c.ranges.target.fits c.ranges.word.fits)
 
 pub returns-clause-few : goal.returns-clause-few

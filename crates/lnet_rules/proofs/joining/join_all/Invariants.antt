@@ -9,7 +9,7 @@ use Rattle.lnet_rules.proofs.joining.join_all.Given as goal
 
 abbrev pub invariant-loop-other : goal.invariant-loop-other
 invariant-loop-other g l = record {
-  so_far : joined_from g.G.Gates.KIND g.G.Gates.form l.how (record { network = l.net.core.network; signal = l.joined }) (drop l.other-index l.others) ≡ joined_from g.G.Gates.KIND g.G.Gates.form l.how (record { network = l.initial.net.core.network; signal = l.initial.joined }) l.others;
+  so_far : joined_from g.G.Gates.KIND l.how (record { network = l.net.core.network; signal = l.joined }) (drop l.other-index l.others) ≡ joined_from g.G.Gates.KIND l.how (record { network = l.initial.net.core.network; signal = l.initial.joined }) l.others;
   joined_live : IsLive l.net.core.network l.joined.node.0;
   live : AreLive l.net.core.network (nodes_read l.others);
   keeps : KeepsLive l.initial.net.core.network l.net.core.network;

@@ -1,7 +1,7 @@
-use Rattle.std.proofs.Common.{refl}
+use Rattle.std.proofs.Common.{refl, ◌∙◌}
 use Rattle.lnet_run.proofs.Accepted.{from_start}
 use Rattle.lnet_run.proofs.Origins.{end_follows}
-use Rattle.lnet_run.proofs.Statuses.{status_faulty, free_status, status_refused, refused_status}
+use Rattle.lnet_run.proofs.Statuses.{status_faulty, free_status, end_quiet, status_refused, refused_status}
 use Rattle.lnet_run.proofs.top.run.Goals as goal
 
 pub returns-clause-outcome : goal.returns-clause-outcome
@@ -28,3 +28,8 @@ pub returns-clause-complete : goal.returns-clause-complete
 returns-clause-complete g c =
     let e = from_start _ c.run_words-ending.result _ _ (g.F.Files.contents c.args.files.now) (g.S.Sink.written c.args.out.now) (g.F.Files.faults c.args.files.now) (g.F.Files.last c.args.files.now) (g.S.Sink.faults c.args.out.now) _ c.new-session.ensures.state c.run_words-ending.ensures.ends in
     free_status _ _ _ _ _ e.0 c.status_of.ensures e.1
+
+pub returns-clause-quiet : goal.returns-clause-quiet
+returns-clause-quiet g c other =
+    let quiet = end_quiet _ c.run_words-ending.result _ _ _ c.run_words-ending.ensures.ends.1 (λ three. other (c.status_of.ensures ∙ three)) in
+    (quiet.file_faults, quiet.last, quiet.sink_faults)

@@ -1,8 +1,7 @@
 use Rattle.std.proofs.Common.{None, refl, sym, subst}
 use Rattle.lnet_any.specs.AnyNets.{network_in}
-use Rattle.lnet_any.specs.Forms.{form_of}
 use Rattle.lnet_replies.specs.declared.reply.Reply.TheVariants as reply
-use Rattle.lnet_session.specs.Made.{IsSound}
+use Rattle.lnet_build.specs.Sound.{IsSound}
 use Rattle.lnet_session.specs.Merging.{GivesWay, MergesIn, StandsInTheWay}
 use Rattle.lnet_session.proofs.merging.merge_in.Goals as goal
 
@@ -22,5 +21,5 @@ returns-in-Ok-None-clause-merges g c =
 pub returns-in-Ok-None-clause-sound : goal.returns-in-Ok-None-clause-sound
 returns-in-Ok-None-clause-sound g c =
     λ sound.
-    let before = subst (λ m. IsSound (form_of (network_in m).kind) (network_in m)) (sym c.obstacle.ensures.same) sound in
+    let before = subst (λ m. IsSound (network_in m)) (sym c.obstacle.ensures.same) sound in
     record { stored = c.substitute.ensures.stored; strashed = c.substitute.ensures.strashed; tidy = c.substitute.ensures.tidy before.tidy }

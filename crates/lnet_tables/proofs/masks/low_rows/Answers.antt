@@ -1,12 +1,6 @@
-use Rattle.std.proofs.Common.{◌≡◌, not, true, refl}
-use Rattle.lnet_tables.specs.Bits.{is_set}
-use Rattle.lnet_tables.specs.declared.masks.TheConstants.{LOW}
-use Rattle.lnet_tables.proofs.Constants.{single_agree, single_at}
+use Rattle.std.proofs.Common.{ap, not, ◌∙◌}
+use Rattle.lnet_tables.proofs.Ops.{set_not}
 use Rattle.lnet_tables.proofs.masks.low_rows.Goals as goal
 
-checked : single_agree (λ i r. not (is_set r i)) 0 LOW ≡ true
-unfolding single_agree is_set
-checked = refl
-
 pub returns : goal.returns
-returns c = λ r lt. single_at (λ i r. not (is_set r i)) LOW checked c.args.index c.requires _ r lt
+returns c = λ r lt. set_not c.high_rows.result r c.high_rows.type_inv lt ∙ ap not (c.high_rows.ensures r lt)

@@ -34,7 +34,7 @@ add_input-requires-clause-fit g c =
     (subst (λ n. AreFitIn (λ b. goal.View-dyn g (b.vtable, b.value)) n.core.network n.core.room n.watch) (sym c.self.view_is) c.requires.in_step)
 
 pub invariant_of-self : goal.invariant_of-self
-invariant_of-self g c = (strashed-entered g.G.Gates.KIND g.G.Gates.form c.self.inside.0.0.hashed.store.network c.add_input.new.hashed.store.network _ c.add_input.result c.add_input.ensures.network c.add_input.ensures.refused c.self.invariant.0, c.add_input.ensures.room)
+invariant_of-self g c = (strashed-entered g.G.Gates.KIND c.self.inside.0.0.hashed.store.network c.add_input.new.hashed.store.network _ c.add_input.result c.add_input.ensures.network c.add_input.ensures.refused c.self.invariant.0, c.add_input.ensures.room)
 
 pub returns-clause-entered : goal.returns-clause-entered
 returns-clause-entered g c =

@@ -16,4 +16,4 @@ pub returns-clause-stored : goal.returns-clause-stored
 returns-clause-stored g c = subst IsStored (ap (λ n. n.core.network) c.self.view_is) (stored-kind g.G.Gates.KIND c.self.inside.0.0.hashed.store.network c.live_count.ensures.stored)
 
 pub returns-clause-strashed : goal.returns-clause-strashed
-returns-clause-strashed g c = subst (IsStrashed g.G.Gates.KIND g.G.Gates.form) (ap (λ n. n.core.network) c.self.view_is) (strashed-kind g.G.Gates.KIND g.G.Gates.form c.self.inside.0.0.hashed.store.network c.self.invariant.0)
+returns-clause-strashed g c = subst (IsStrashed g.G.Gates.KIND) (ap (λ n. n.core.network) c.self.view_is) (strashed-kind g.G.Gates.KIND c.self.inside.0.0.hashed.store.network c.self.invariant.0)

@@ -26,7 +26,7 @@ make-requires-clause-fit g c =
 
 pub invariant_of-self : goal.invariant_of-self
 invariant_of-self g c = (
-  strashed-after g.G.Gates.KIND g.G.Gates.form g.met.G.Gates.laws c.self.inside.0.0.hashed.store.network c.make.new.hashed.store.network c.args.op c.args.operands.now c.requires.arity
+  strashed-after g.G.Gates.KIND c.self.inside.0.0.hashed.store.network c.make.new.hashed.store.network c.args.op c.args.operands.now c.requires.arity
       c.word_fits.ensures c.make.result c.make.ensures.made c.make.ensures.refused c.self.invariant.0,
   c.make.ensures.room,
 )
@@ -34,29 +34,29 @@ invariant_of-self g c = (
 pub returns-clause-made : goal.returns-clause-made
 returns-clause-made g c =
     let same =
-    ap (λ n. made g.G.Gates.KIND g.G.Gates.form n.core.network c.args.op c.args.operands.now) (sym c.self.view_is)
-    ∙ made-kind g.G.Gates.KIND g.G.Gates.form c.self.inside.0.0.hashed.store.network c.args.op c.args.operands.now in
+    ap (λ n. made g.G.Gates.KIND n.core.network c.args.op c.args.operands.now) (sym c.self.view_is)
+    ∙ made-kind g.G.Gates.KIND c.self.inside.0.0.hashed.store.network c.args.op c.args.operands.now in
     if-ok c.make.result (λ s p. same ∙ ap (kinded g.G.Gates.KIND) p) c.make.ensures.made
 
 pub returns-clause-full : goal.returns-clause-full
 returns-clause-full g c e =
     let same =
-    ap (λ n. made g.G.Gates.KIND g.G.Gates.form n.core.network c.args.op c.args.operands.now) (sym c.self.view_is)
-    ∙ made-kind g.G.Gates.KIND g.G.Gates.form c.self.inside.0.0.hashed.store.network c.args.op c.args.operands.now in
+    ap (λ n. made g.G.Gates.KIND n.core.network c.args.op c.args.operands.now) (sym c.self.view_is)
+    ∙ made-kind g.G.Gates.KIND c.self.inside.0.0.hashed.store.network c.args.op c.args.operands.now in
     subst (λ (p : Placed). NUMBERS < live_count p.network) (sym same)
     (subst (λ n. NUMBERS < n)
-    (sym (count-kind g.G.Gates.KIND (made g.G.Gates.KIND g.G.Gates.form c.self.inside.0.0.hashed.store.network c.args.op c.args.operands.now).network)) (c.make.ensures.full e))
+    (sym (count-kind g.G.Gates.KIND (made g.G.Gates.KIND c.self.inside.0.0.hashed.store.network c.args.op c.args.operands.now).network)) (c.make.ensures.full e))
 
 pub returns-clause-memory : goal.returns-clause-memory
 returns-clause-memory g c e =
     let same =
-    ap (λ n. made g.G.Gates.KIND g.G.Gates.form n.core.network c.args.op c.args.operands.now) (sym c.self.view_is)
-    ∙ made-kind g.G.Gates.KIND g.G.Gates.form c.self.inside.0.0.hashed.store.network c.args.op c.args.operands.now in
+    ap (λ n. made g.G.Gates.KIND n.core.network c.args.op c.args.operands.now) (sym c.self.view_is)
+    ∙ made-kind g.G.Gates.KIND c.self.inside.0.0.hashed.store.network c.args.op c.args.operands.now in
     let more =
     subst (λ (p : Placed). c.self.inside.0.0.hashed.room < min NUMBERS (live_count p.network)) (sym same)
     (subst (λ n. c.self.inside.0.0.hashed.room < min NUMBERS n)
-    (sym (count-kind g.G.Gates.KIND (made g.G.Gates.KIND g.G.Gates.form c.self.inside.0.0.hashed.store.network c.args.op c.args.operands.now).network)) (c.make.ensures.memory e)) in
-    subst (λ n. n < min NUMBERS (live_count (made g.G.Gates.KIND g.G.Gates.form c.args.self.now.core.network c.args.op c.args.operands.now).network)) (ap (λ n. n.core.room) c.self.view_is) more
+    (sym (count-kind g.G.Gates.KIND (made g.G.Gates.KIND c.self.inside.0.0.hashed.store.network c.args.op c.args.operands.now).network)) (c.make.ensures.memory e)) in
+    subst (λ n. n < min NUMBERS (live_count (made g.G.Gates.KIND c.args.self.now.core.network c.args.op c.args.operands.now).network)) (ap (λ n. n.core.room) c.self.view_is) more
 
 pub returns-clause-in_step : goal.returns-clause-in_step
 returns-clause-in_step g c =

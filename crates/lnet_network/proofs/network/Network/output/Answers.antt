@@ -24,7 +24,7 @@ add_output-requires-clause-live g c =
 pub invariant_of-self : goal.invariant_of-self
 invariant_of-self g c =
     let is = either-outputs c.self.inside.0.0.hashed.store.network c.add_output.new.self.network c.args.s _ c.add_output.result c.add_output.ensures.network c.add_output.ensures.refused in
-    (strashed-outputs g.G.Gates.KIND g.G.Gates.form c.self.inside.0.0.hashed.store.network c.add_output.new.self.network is c.self.invariant.0, room-outputs c.self.inside.0.0.hashed c.add_output.new.self is c.add_output.ensures.spare c.self.invariant.1)
+    (strashed-outputs g.G.Gates.KIND c.self.inside.0.0.hashed.store.network c.add_output.new.self.network is c.self.invariant.0, room-outputs c.self.inside.0.0.hashed c.add_output.new.self is c.add_output.ensures.spare c.self.invariant.1)
 
 pub returns-clause-added : goal.returns-clause-added
 returns-clause-added g c =

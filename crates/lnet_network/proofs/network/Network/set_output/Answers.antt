@@ -15,7 +15,7 @@ set_output-requires-clause-live g c = subst IsSome (sym (ap (λ n. entry_at n.co
 pub invariant_of-self : goal.invariant_of-self
 invariant_of-self g c =
     let is = set-outputs c.self.inside.0.0.hashed.store.network c.set_output.new.self.network c.args.k c.args.s c.set_output.ensures.network in
-    (strashed-outputs g.G.Gates.KIND g.G.Gates.form c.self.inside.0.0.hashed.store.network c.set_output.new.self.network is c.self.invariant.0, room-outputs c.self.inside.0.0.hashed c.set_output.new.self is c.set_output.ensures.spare c.self.invariant.1)
+    (strashed-outputs g.G.Gates.KIND c.self.inside.0.0.hashed.store.network c.set_output.new.self.network is c.self.invariant.0, room-outputs c.self.inside.0.0.hashed c.set_output.new.self is c.set_output.ensures.spare c.self.invariant.1)
 
 pub returns-clause-set : goal.returns-clause-set
 returns-clause-set g c =

@@ -29,7 +29,7 @@ invariant_of-self g c = (c.substitute.ensures.strashed, c.substitute.ensures.roo
 
 pub returns-clause-substitutes : goal.returns-clause-substitutes
 returns-clause-substitutes g c =
-    subst (λ n. Substitutes g.G.Gates.KIND g.G.Gates.form n.core.network c.args.gate.0 c.args.signal (of_kind g.G.Gates.KIND c.substitute.new.hashed.store.network)) c.self.view_is (substitutes-of_kind g.G.Gates.KIND g.G.Gates.KIND g.G.Gates.form c.self.inside.0.0.hashed.store.network c.args.gate.0 c.args.signal c.substitute.new.hashed.store.network c.substitute.ensures.substitutes)
+    subst (λ n. Substitutes g.G.Gates.KIND n.core.network c.args.gate.0 c.args.signal (of_kind g.G.Gates.KIND c.substitute.new.hashed.store.network)) c.self.view_is (substitutes-of_kind g.G.Gates.KIND g.G.Gates.KIND c.self.inside.0.0.hashed.store.network c.args.gate.0 c.args.signal c.substitute.new.hashed.store.network c.substitute.ensures.substitutes)
 
 pub returns-clause-in_step : goal.returns-clause-in_step
 returns-clause-in_step g c =

@@ -11,7 +11,7 @@ sweep-requires-clause-fit g c =
     (subst (λ n. AreFitIn (λ b. goal.View-dyn g (b.vtable, b.value)) n.core.network n.core.room n.watch) (sym c.self.view_is) c.requires.in_step)
 
 pub invariant_of-self : goal.invariant_of-self
-invariant_of-self g c = (swept-strashed g.G.Gates.KIND g.G.Gates.form c.self.inside.0.0.hashed.store.network c.sweep.new.hashed.store.network c.sweep.ensures.network c.self.invariant.0, c.sweep.ensures.room)
+invariant_of-self g c = (swept-strashed g.G.Gates.KIND c.self.inside.0.0.hashed.store.network c.sweep.new.hashed.store.network c.sweep.ensures.network c.self.invariant.0, c.sweep.ensures.room)
 
 pub returns-clause-network : goal.returns-clause-network
 returns-clause-network g c =

@@ -9,8 +9,8 @@ make_space-requires c =
     let s = ap (λ (h : StoreValue). h.spare) c.self.view_is in
     omega (arith, c.live.ensures.limit)
 
-pub returns-then-live-eq-LIMIT-clause-full : goal.returns-then-live-eq-LIMIT-clause-full
-returns-then-live-eq-LIMIT-clause-full c =
+pub returns-then-live-eq-NUMBER_LIMIT-clause-full : goal.returns-then-live-eq-NUMBER_LIMIT-clause-full
+returns-then-live-eq-NUMBER_LIMIT-clause-full c =
     let e = live-of c.self.inside.nodes.nodes c.self.inside.inputs.items c.self.inside.outputs.items c.args.self.now.network (ap (λ (h : StoreValue). h.network) c.self.view_is) in
     let s = ap (λ (h : StoreValue). h.spare) c.self.view_is in
     (λ q. omega arith, λ q. refl)
@@ -18,9 +18,9 @@ returns-then-live-eq-LIMIT-clause-full c =
 pub returns-in-Ok-clause-full : goal.returns-in-Ok-clause-full
 returns-in-Ok-clause-full c =
     let e = live-of c.self.inside.nodes.nodes c.self.inside.inputs.items c.self.inside.outputs.items c.args.self.now.network (ap (λ (h : StoreValue). h.network) c.self.view_is) in
-    (λ q. cc, λ q. absurd (c.if-live-eq-LIMIT.false (omega arith)))
+    (λ q. cc, λ q. absurd (c.if-live-eq-NUMBER_LIMIT.false (omega arith)))
 
 pub returns-in-Err-clause-full : goal.returns-in-Err-clause-full
 returns-in-Err-clause-full c =
     let e = live-of c.self.inside.nodes.nodes c.self.inside.inputs.items c.self.inside.outputs.items c.args.self.now.network (ap (λ (h : StoreValue). h.network) c.self.view_is) in
-    (λ q. cc, λ q. absurd (c.if-live-eq-LIMIT.false (omega arith)))
+    (λ q. cc, λ q. absurd (c.if-live-eq-NUMBER_LIMIT.false (omega arith)))

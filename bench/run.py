@@ -43,15 +43,15 @@ def numbers(state):
         yield state >> 33
 
 
-def circuit(gates):
+def circuit(gates, inputs=INPUTS):
     """An ASCII AIGER file in ascending order with so many And gates."""
     draw = numbers(gates)
-    top = INPUTS + gates
-    lines = [f"aag {top} {INPUTS} 0 {OUTPUTS} {gates}"]
-    lines += [str(2 * wire) for wire in range(1, INPUTS + 1)]
+    top = inputs + gates
+    lines = [f"aag {top} {inputs} 0 {OUTPUTS} {gates}"]
+    lines += [str(2 * wire) for wire in range(1, inputs + 1)]
     lines += [str(2 * top - next(draw) % (2 * OUTPUTS)) for _ in range(OUTPUTS)]
-    for wire in range(INPUTS + 1, top + 1):
-        near = 2 * wire - 1 - next(draw) % (2 * INPUTS)
+    for wire in range(inputs + 1, top + 1):
+        near = 2 * wire - 1 - next(draw) % (2 * inputs)
         far = 2 + next(draw) % (2 * wire - 2)
         lines.append(f"{2 * wire} {near} {far}")
     return "\n".join(lines) + "\n"

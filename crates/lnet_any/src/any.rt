@@ -25,7 +25,6 @@ use lnet_store::{View, ViewSpec};
 use std::alloc::{AllocError, Global};
 
 /// A network of one of the four kinds.
-#[derive(Drop)]
 pub enum AnyNet {
     /// An and-inverter graph.
     Aig(Network<AigGates>),
@@ -35,6 +34,18 @@ pub enum AnyNet {
     Mig(Network<MigGates>),
     /// A network of look-up tables.
     Klut(Network<KlutGates>),
+}
+
+impl Drop for AnyNet {
+    /// Lets its network go. Where a value ends this is called; a derived one would be written out there.
+    fn drop(self) {
+        match self {
+            Self::Aig(_) => {}
+            Self::Xag(_) => {}
+            Self::Mig(_) => {}
+            Self::Klut(_) => {}
+        }
+    }
 }
 
 impl AnyNet {

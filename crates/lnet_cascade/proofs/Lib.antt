@@ -9,3 +9,4 @@ pub mod DirtySteps
 pub mod Named
 pub mod Whole
 pub mod TestLemmas
+pub mod Parents

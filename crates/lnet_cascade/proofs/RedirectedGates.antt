@@ -80,7 +80,7 @@ module _ (N : NetworkValue) (i x : ℕ) (t : Signal) (g : GateValue) (at : GateA
   }
 
 -- what doesn't read x is redirected as it is
-unread : (x : ℕ) (t : Signal) (e : Option Entry) → (In x (fanin_nodes e) → ⊥) → e ≡ option_map (redirected_entry x t) e
+pub unread : (x : ℕ) (t : Signal) (e : Option Entry) → (In x (fanin_nodes e) → ⊥) → e ≡ option_map (redirected_entry x t) e
 unread x t None h = refl
 unread x t (Some Constant) h = refl
 unread x t (Some (Input k)) h = refl

@@ -1,16 +1,15 @@
 //! Redirecting references from a gate to a signal, gate by gate, and the removal of the gate.
 #![tactic(auto, using(lnet_hashed::proofs::KeptViews::told_twice, lnet_hashed::proofs::KeptViews::told_same))]
 
-ghost use Rattle.std.specs.Prelude.{◌≡◌, ◌≤◌, ◌<◌, ◌+◌, ◌↔◌, ℕ, IsTrue, false, length, map, slice_set};
+ghost use Rattle.std.specs.Prelude.{◌≡◌, ◌≤◌, ◌<◌, ◌+◌, ◌↔◌, ℕ, IsTrue, MatchOption, false, length, map, slice_set};
 ghost use Rattle.lnet_model.specs.Networks.{IsLive, live_count, entry_at};
 ghost use Rattle.lnet_model.specs.Along.{In, Depends, fanin_nodes, nodes_read};
 ghost use Rattle.lnet_model.specs.Changes.{IsGateAt, without};
 ghost use Rattle.lnet_model.specs.Fanouts.{references};
-ghost use Rattle.lnet_model.specs.Dags.{numbers_of};
 ghost use Rattle.lnet_substitution.specs.Replaced.{redirected, replaced};
 ghost use Rattle.lnet_hashed.specs.Watches.{AreFitBy, AreToldBy};
 ghost use Rattle.lnet_cascade.specs.Marks.{MarkedMore};
-ghost use Rattle.lnet_cascade.specs.Redirections.{RedirectedAt, RedirectedBelow, outputs_redirected};
+ghost use Rattle.lnet_cascade.specs.Redirections.{RedirectedAll, RedirectedAt, outputs_redirected};
 ghost use Rattle.lnet_cascade.specs.Rooms.{IsMidway, StaysMidway};
 
 use arrayvec::ArrayVec;
@@ -102,29 +101,44 @@ fn redirect_at(hashed: &mut Hashed, watch: &mut Watch, n: u32, redirection: Redi
     }
 }
 
-/// Redirects the references of each gate, marks those that had one as dirty, and tells the views of each.
+/// A gate that reads the node, that of the first slot in its chain.
+fn first_parent(store: &Store, node: Node) -> Option<Node>
+    ensures { MatchOption result ((m : ℕ) → In node.0 (fanin_nodes (entry_at store.now.network m)) → ⊥) (λ p. In node.0 (fanin_nodes (entry_at store.now.network p.0))) }
+{
+    let (look, mut visits) = store.look();
+    let mut parents = look.parents(node);
+    match parents.next(&mut visits) {
+        Some((parent, _)) => Some(parent),
+        None => None,
+    }
+}
+
+/// Redirects the references of each gate, marks those that had one as dirty, and tells the views of each. It looks at the gates
+/// that read the node alone.
 fn redirect_gates(hashed: &mut Hashed, watch: &mut Watch, redirection: Redirection)
     requires live { IsLive hashed.old.store.network redirection.to.node.0 }
     requires free { Depends hashed.old.store.network redirection.to redirection.from.0 → ⊥ }
     requires midway { IsMidway hashed.old }
     requires fit { AreFitBy ⟦<dyn View as View>⟧ hashed.old.store.network hashed.old.room watch.old }
-    ensures redirected { RedirectedBelow hashed.old.store.network redirection.from.0 redirection.to (numbers_of hashed.old.store.network) hashed.new.store.network }
+    ensures redirected { RedirectedAll hashed.old.store.network redirection.from.0 redirection.to hashed.new.store.network }
     ensures dirty { MarkedMore (λ m. In redirection.from.0 (fanin_nodes (entry_at hashed.old.store.network m))) hashed.old.keys.dirty.items hashed.new.keys.dirty.items }
     ensures midway { StaysMidway hashed.old hashed.new }
     ensures told { AreToldBy ⟦<dyn View as View>⟧ hashed.new.store.network hashed.new.room watch.old watch.new }
 {
-    let end = hashed.store.numbers();
-    for n in 0..end {
-        redirect_at(hashed, watch, n, redirection);
+    'parents: while let Some(parent) = first_parent(&hashed.store, redirection.from) {
+        redirect_at(hashed, watch, parent.0, redirection);
     }
 }
 
-/// Redirects each output. A change of an output is no event.
+/// Redirects each output, where one names the node. A change of an output is no event.
 fn redirect_outputs(store: &mut Store, redirection: Redirection)
     requires { IsLive store.old.network redirection.to.node.0 }
     ensures network { store.new.network ≡ outputs_redirected store.old.network redirection.from.0 redirection.to }
     ensures spare { store.old.spare ≤ store.new.spare }
 {
+    if store.refs(redirection.from) == 0 {
+        return;
+    }
     for k in 0..store.output_count() {
         if let Some(signal) = store.output(k) {
             store.set_output(k, redirection.of(signal));

@@ -26,8 +26,8 @@ use lnet_store::View;
 /// `Modified` for all slots of a gate that change at once, one `Deleted` for each gate that goes. A change of an output is no
 /// event.
 ///
-/// It takes no memory, and can't be refused. Each gate that goes or that takes another form costs a look at each number, for its
-/// parents and for the next dirty gate; a key is found in constant time on average. The rest is what the views take.
+/// It takes no memory, and can't be refused. Each gate that goes or that takes another form costs a look at each number, for the
+/// next dirty gate; its parents are found by their chain, and a key in constant time on average. The rest is what the views take.
 pub fn substitute<G: Gates>(hashed: &mut Hashed, watch: &mut Watch, gate: Node, signal: Signal)
     requires strashed { IsStrashed G.KIND hashed.old.store.network }
     requires gate { IsGateAt hashed.old.store.network gate.0 }

@@ -27,7 +27,6 @@ use std::alloc::{AllocError, Global};
 ///
 /// Each call here keeps `HasRoom`: the network's numbers are below the room, the store has memory for so many, there are marks
 /// for each, and each gate stands under its key.
-#[derive(Drop)]
 pub struct Hashed {
     /// The network.
     pub store: Store,
@@ -37,6 +36,18 @@ pub struct Hashed {
     pub named: Vec<bool>,
     /// For how many numbers there is memory.
     pub room: u32,
+}
+
+impl Drop for Hashed {
+    /// Lets its fields go. Where a value ends this is called; a derived one would be written out there.
+    fn drop(self) {
+        let Self {
+            store: _,
+            keys: _,
+            named: _,
+            room: _,
+        } = self;
+    }
 }
 
 impl Hashed {

@@ -16,12 +16,18 @@ use std::alloc::{AllocError, Global};
 ///
 /// A gate is dirty where it may not be its own normal form, or may have the key of another: while a substitution runs. The
 /// table holds just the clean gates, each under its key and with its phase, which is `IsIndexed`.
-#[derive(Drop)]
 pub struct Keys {
     /// The clean gates by their keys.
     pub(crate) table: Strash,
     /// By number whether the gate is dirty.
     pub dirty: Vec<bool>,
+}
+
+impl Drop for Keys {
+    /// Lets its fields go. Where a value ends this is called; a derived one would be written out there.
+    fn drop(self) {
+        let Self { table: _, dirty: _ } = self;
+    }
 }
 
 /// Lengthens the list by `false` to at least so many items. Linear in the items to come.

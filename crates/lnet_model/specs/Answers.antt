@@ -11,11 +11,11 @@ use Rattle.lnet_model.specs.declared.view_spec.ViewSpec.{ViewSpec}
 use Rattle.lnet_model.specs.declared.view_spec.ViewKind.TheVariants as kinds
 use Rattle.lnet_model.specs.declared.view_spec.ViewSpec.TheVariants.{Depth, Fanout, Cuts}
 
--- the answer that a view keeps for a node
+-- the answer that a view keeps for a node: its level; its fanout; its level and its cut list
 pub data Answer : Type 0 where
   Level : ℕ → Answer
   Parents : List (ℕ × ℕ) → Answer
-  CutList : List CutValue → Answer
+  CutList : ℕ → List CutValue → Answer
 
 -- the kind of the views that a spec is for
 abbrev pub kind_for : ViewSpec → ViewKind
@@ -40,7 +40,7 @@ IsSpec (Cuts rule) = IsCutRule rule
 unfoldable pub from_scratch : ViewSpec → NetworkValue → ℕ → Answer
 from_scratch Depth N n = Level (level N n)
 from_scratch Fanout N n = Parents (fan N n)
-from_scratch (Cuts rule) N n = CutList (cuts N rule.size rule.limit n)
+from_scratch (Cuts rule) N n = CutList (level N n) (cuts N rule.size rule.limit n)
 
 -- attached for a spec, and the answers kept are those of the definitions at the live nodes, and none elsewhere
 pub record InStep (spec : Option ViewSpec) (kept : ℕ → Option Answer) (N : NetworkValue) : Type 0 where
@@ -59,7 +59,7 @@ parents_in (Some (Parents ps)) = Some ps
 parents_in _ = None
 
 abbrev pub cuts_in : Option Answer → Option (List CutValue)
-cuts_in (Some (CutList cs)) = Some cs
+cuts_in (Some (CutList l cs)) = Some cs
 cuts_in _ = None
 
 -- item i of a list, where there is a list and it has one

@@ -11,10 +11,19 @@ use std::marker::Model;
 /// An optional name for each input and each output of a network.
 ///
 /// A contract sees the two lists in order, each name as its bytes.
-#[derive(Drop)]
 pub struct Names {
     inputs: Vec<Option<Name>>,
     outputs: Vec<Option<Name>>,
+}
+
+impl Drop for Names {
+    /// Lets its lists go. Where a value ends this is called; a derived one would be written out there.
+    fn drop(self) {
+        let Self {
+            inputs: _,
+            outputs: _,
+        } = self;
+    }
 }
 
 impl Model for Names {

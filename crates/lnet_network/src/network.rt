@@ -21,10 +21,16 @@ use std::alloc::{AllocError, Global};
 use std::marker::{Model, PhantomData};
 
 /// A hashed store whose gates are of one kind and in normal form, no two with one key.
-#[derive(Drop)]
 pub struct Core<G: Gates> {
     pub(crate) hashed: Hashed,
     kind: PhantomData<G>,
+}
+
+impl<G: Gates> Drop for Core<G> {
+    /// Lets its fields go. Where a value ends this is called; a derived one would be written out there.
+    fn drop(self) {
+        let Self { hashed: _, kind: _ } = self;
+    }
 }
 
 impl<G: Gates> Model for Core<G> {
@@ -67,12 +73,18 @@ fn word_fits(op: &Op)
 }
 
 /// A network of one kind, and views in slots.
-#[derive(Drop)]
 pub struct Network<G: Gates> {
     /// The gates, the inputs and the outputs.
     pub core: Core<G>,
     /// The views, each in the slot of its id.
     pub watch: Watch,
+}
+
+impl<G: Gates> Drop for Network<G> {
+    /// Lets its fields go. Where a value ends this is called; a derived one would be written out there.
+    fn drop(self) {
+        let Self { core: _, watch: _ } = self;
+    }
 }
 
 impl<G: Gates> Network<G> {

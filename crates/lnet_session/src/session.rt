@@ -42,10 +42,16 @@ pub struct Kit {
 }
 
 /// The state between two commands.
-#[derive(Drop)]
 pub struct Session {
     pub(crate) place: Option<Place>,
     pub(crate) views: Subscriptions,
+}
+
+impl Drop for Session {
+    /// Lets its fields go. Where a value ends this is called; a derived one would be written out there.
+    fn drop(self) {
+        let Self { place: _, views: _ } = self;
+    }
 }
 
 impl Session {

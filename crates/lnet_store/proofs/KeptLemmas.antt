@@ -1,6 +1,8 @@
 -- The counts stay the references with each change, and there is memory for each number.
 use Rattle.std.proofs.Common.{Bool, ◌≡◌, ℕ, ◌+◌, ◌^◌, ◌<◌, ◌≤◌, List, [], ◌∷◌, length, IsSome, Option, None, Some, get_or, slice_index, refl, sym, ap, subst, ◌∙◌, arith}
 use Rattle.std.proofs.lemmas.List.Sums.{count_by-le-length}
+use Rattle.std.specs.Ordering.{nat_cmp}
+use Rattle.std.specs.FinMap.{FinMap, get}
 use Rattle.std.specs.Prelude.{eqb}
 use Rattle.lnet_gates.specs.declared.signal.Node.{Node}
 use Rattle.lnet_gates.specs.declared.signal.Signal.{Signal}
@@ -25,6 +27,13 @@ gate-at (Some Constant) g e = cc
 gate-at (Some (Input k)) g e = cc
 gate-at (Some (IsGate h)) g e = let same : h ≡ g = cc in ap (λ z. Some (IsGate z)) same
 
+pub one-gate : (g h : GateValue) → Some g ≡ Some h → g ≡ h
+one-gate g h e = cc
+
+pub gate-stands : (nodes : FinMap nat_cmp Entry) (inputs : List Node) (outputs : List Signal) (N : NetworkValue) → network_of nodes inputs outputs ≡ N → (n : ℕ) (g : GateValue) →
+    gate_in (get nodes n) ≡ Some g → GateAt N n g
+gate-stands nodes inputs outputs N is n g e = sym (entry-of nodes inputs outputs N is n) ∙ gate-at (get nodes n) g e
+
 pub gate-there : (N : NetworkValue) (n : ℕ) → IsGateAt N n → IsSome (gate_in (entry_at N n))
 gate-there N n g = subst (λ o. IsSome (gate_in o)) (sym g.1) refl
 
@@ -33,7 +42,8 @@ fanin-live N n m g stored at i = stored.dag.closed n m (subst (λ o. In m (fanin
 
 -- ---- memory
 
-pub counts-known : (nodes : Numbered) (places : ℕ) (inputs : List Node) (outputs : List Signal) (counts : List ℕ) (marks : List Bool) (queue : ℕ) (N : NetworkValue) → HasRoom nodes places inputs counts marks queue → network_of nodes.nodes inputs outputs ≡ N → (m : ℕ) → IsLive N m → m < length counts
+pub counts-known : (nodes : Numbered) (places : ℕ) (inputs : List Node) (outputs : List Signal) (counts : List ℕ) (marks : List Bool) (queue : ℕ) (N : NetworkValue) →
+    HasRoom nodes places inputs counts marks queue → network_of nodes.nodes inputs outputs ≡ N → (m : ℕ) → IsLive N m → m < length counts
 counts-known nodes places inputs outputs counts marks queue N h is m live =
     let lt = h.fitting.within m (subst IsSome (sym (entry-of nodes.nodes inputs outputs N is m)) live) in
     let le = h.counts_fit in
@@ -53,7 +63,8 @@ counts-fit counts N refs stored ss six n =
 pub gate-six : (g : GateValue) → Takes g.op (length g.fanins) → length g.fanins ≤ 6
 gate-six g takes = takes-six g.op (length g.fanins) takes
 
-pub room-kept : (nodes nodes2 : Numbered) (places : ℕ) (inputs : List Node) (counts counts2 : List ℕ) (marks : List Bool) (queue : ℕ) → HasRoom nodes places inputs counts marks queue → IsFitting nodes2 → nodes2.room ≡ nodes.room → length counts2 ≡ length counts → HasRoom nodes2 places inputs counts2 marks queue
+pub room-kept : (nodes nodes2 : Numbered) (places : ℕ) (inputs : List Node) (counts counts2 : List ℕ) (marks : List Bool) (queue : ℕ) → HasRoom nodes places inputs counts marks queue →
+    IsFitting nodes2 → nodes2.room ≡ nodes.room → length counts2 ≡ length counts → HasRoom nodes2 places inputs counts2 marks queue
 room-kept nodes nodes2 places inputs counts counts2 marks queue h f r c =
     let a = h.inputs_fit in
     let b = h.counts_fit in
@@ -72,7 +83,8 @@ room-kept nodes nodes2 places inputs counts counts2 marks queue h f r c =
 -- ---- the counts
 
 module _ (counts counts2 : List ℕ) (N : NetworkValue) (refs : AreReferences counts N) where
-  pub kept-add : (k : ℕ) (g : GateValue) (ss : List Signal) → ss ≡ g.fanins → entry_at N k ≡ None → ((m : ℕ) → slice_index counts2 m ≡ slice_index counts m + naming m ss) → AreReferences counts2 (with_entry N k (IsGate g))
+  pub kept-add : (k : ℕ) (g : GateValue) (ss : List Signal) → ss ≡ g.fanins → entry_at N k ≡ None → ((m : ℕ) → slice_index counts2 m ≡ slice_index counts m + naming m ss) →
+      AreReferences counts2 (with_entry N k (IsGate g))
   unfolding AreReferences
   kept-add k g ss same free more m =
       let a = more m in
@@ -89,7 +101,8 @@ module _ (counts counts2 : List ℕ) (N : NetworkValue) (refs : AreReferences co
       let d = refs-new_output N s m in
       omega arith
 
-  pub kept-remove : (k : ℕ) (g : GateValue) (ss : List Signal) → ss ≡ g.fanins → GateAt N k g → ((m : ℕ) → slice_index counts2 m + naming m ss ≡ slice_index counts m) → AreReferences counts2 (without N k)
+  pub kept-remove : (k : ℕ) (g : GateValue) (ss : List Signal) → ss ≡ g.fanins → GateAt N k g → ((m : ℕ) → slice_index counts2 m + naming m ss ≡ slice_index counts m) →
+      AreReferences counts2 (without N k)
   unfolding AreReferences
   kept-remove k g ss same at less m =
       let a = less m in
@@ -103,7 +116,8 @@ unfolding AreReferences
 kept-input counts N refs k free m = refs m ∙ sym (refs-input N k free m)
 
 module _ (counts counts2 counts3 : List ℕ) (N : NetworkValue) (refs : AreReferences counts N) where
-  pub kept-set : (k : ℕ) (g h : GateValue) (ss rs : List Signal) → ss ≡ g.fanins → rs ≡ h.fanins → GateAt N k h → ((m : ℕ) → slice_index counts2 m ≡ slice_index counts m + naming m ss) → ((m : ℕ) → slice_index counts3 m + naming m rs ≡ slice_index counts2 m) → AreReferences counts3 (with_entry N k (IsGate g))
+  pub kept-set : (k : ℕ) (g h : GateValue) (ss rs : List Signal) → ss ≡ g.fanins → rs ≡ h.fanins → GateAt N k h → ((m : ℕ) → slice_index counts2 m ≡ slice_index counts m + naming m ss) →
+      ((m : ℕ) → slice_index counts3 m + naming m rs ≡ slice_index counts2 m) → AreReferences counts3 (with_entry N k (IsGate g))
   unfolding AreReferences
   kept-set k g h ss rs same is at more less m =
       let a = more m in
@@ -114,7 +128,8 @@ module _ (counts counts2 counts3 : List ℕ) (N : NetworkValue) (refs : AreRefer
       let i = ap (naming m) is in
       omega arith
 
-  pub kept-output : (k : ℕ) (s o : Signal) → k < length N.outputs → o ≡ get_or N.outputs k o → ((m : ℕ) → slice_index counts2 m ≡ slice_index counts m + naming m (s ∷ [])) → ((m : ℕ) → slice_index counts3 m + naming m (o ∷ []) ≡ slice_index counts2 m) → AreReferences counts3 (with_output N k s)
+  pub kept-output : (k : ℕ) (s o : Signal) → k < length N.outputs → o ≡ get_or N.outputs k o → ((m : ℕ) → slice_index counts2 m ≡ slice_index counts m + naming m (s ∷ [])) →
+      ((m : ℕ) → slice_index counts3 m + naming m (o ∷ []) ≡ slice_index counts2 m) → AreReferences counts3 (with_output N k s)
   unfolding AreReferences
   kept-output k s o lt is more less m =
       let a = more m in
@@ -124,7 +139,8 @@ module _ (counts counts2 counts3 : List ℕ) (N : NetworkValue) (refs : AreRefer
       omega arith
 
 -- what a gate reads is counted
-pub gate-counted : (counts : List ℕ) (N : NetworkValue) → AreReferences counts N → (k : ℕ) (g : GateValue) (ss : List Signal) → ss ≡ g.fanins → GateAt N k g → (m : ℕ) → naming m ss ≤ slice_index counts m
+pub gate-counted : (counts : List ℕ) (N : NetworkValue) → AreReferences counts N → (k : ℕ) (g : GateValue) (ss : List Signal) → ss ≡ g.fanins → GateAt N k g → (m : ℕ) →
+    naming m ss ≤ slice_index counts m
 unfolding AreReferences
 gate-counted counts N refs k g ss same at m =
     let b = refs m in
@@ -132,7 +148,8 @@ gate-counted counts N refs k g ss same at m =
     let e = ap (naming m) same in
     omega arith
 
-pub output-counted : (counts : List ℕ) (N : NetworkValue) → AreReferences counts N → (k : ℕ) (s o : Signal) → k < length N.outputs → o ≡ get_or N.outputs k o → (m : ℕ) → naming m (o ∷ []) ≤ slice_index counts m + naming m (s ∷ [])
+pub output-counted : (counts : List ℕ) (N : NetworkValue) → AreReferences counts N → (k : ℕ) (s o : Signal) → k < length N.outputs → o ≡ get_or N.outputs k o → (m : ℕ) →
+    naming m (o ∷ []) ≤ slice_index counts m + naming m (s ∷ [])
 unfolding AreReferences
 output-counted counts N refs k s o lt is m =
     let b = refs m in

@@ -1,5 +1,4 @@
 pub mod SlotLemmas
-pub mod ParentLemmas
 pub mod StoreLemmas
 pub mod CountLemmas
 pub mod ChangeLemmas
@@ -7,3 +6,11 @@ pub mod FewInputs
 pub mod KeptLemmas
 pub mod SearchLemmas
 pub mod NextPairs
+pub mod FanMembers
+pub mod ChainSteps
+pub mod LinkLemmas
+pub mod Cursors
+pub mod LinkedNumbers
+pub mod FreeSlots
+pub mod CountedSlots
+pub mod ListSteps

@@ -51,7 +51,7 @@ length-nodes (n ∷ ns) = ap suc (length-nodes ns)
 abbrev first_nodes : FinMap nat_cmp Entry
 first_nodes = insert empty 0 Constant
 
-first-entry : (n : ℕ) → entry_at first_network n ≡ cond (eqb n 0) (Some Constant) None
+pub first-entry : (n : ℕ) → entry_at first_network n ≡ cond (eqb n 0) (Some Constant) None
 unfolding entry_at first_network
 first-entry n = elim (eqb_tells n 0) as (λ _. get first_nodes n ≡ cond (eqb n 0) (Some Constant) None) [
   | inl p ↦ ap (get first_nodes) p.1 ∙ insert_here empty 0 Constant ∙ ap (λ b. cond b (Some Constant) None) (sym p.0)
@@ -111,7 +111,7 @@ no-fan n =
     ])
     ∙ ap (λ o. at_entry [] (λ e. slots_naming n 0 0 (fanins_of e)) o ++ []) (first-entry 0)
 
-first-named : (n : ℕ) → references first_network n ≡ 0
+pub first-named : (n : ℕ) → references first_network n ≡ 0
 unfolding references first_network
 first-named n = let e = ap (λ zs. length zs) (no-fan n) in omega arith
 

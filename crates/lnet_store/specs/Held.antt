@@ -1,5 +1,5 @@
 -- What the slots of a store hold: the nodes by number, and how the numbers are counted.
-use Rattle.std.specs.Prelude.{◌≡◌, ℕ, ◌+◌, ◌<◌, ◌≤◌, List, map, length, refl, IsSome, Option, None, Some}
+use Rattle.std.specs.Prelude.{◌≡◌, ℕ, ◌+◌, ◌<◌, ◌≤◌, Bool, true, false, List, map, length, refl, IsSome, Option, None, Some}
 use Rattle.std.specs.Coded.{Coded, code_by, coded×, coded_ℕ}
 use Rattle.std.specs.Ordering.{nat_cmp}
 use Rattle.std.specs.FinMap as maps
@@ -33,12 +33,17 @@ entry_in (Some s) = Some (entry_of s)
 unfoldable pub held : List (Option Slot) → FinMap nat_cmp Entry
 held slots = nodes_of (map entry_in slots)
 
--- how many numbers are live, how many there are up to the greatest live one, and below which number none is free
-pub record IsCounted (slots : List (Option Slot)) (live numbers floor : ℕ) : Type 0 where
+-- whether a slot is empty
+abbrev pub is_empty : Option Slot → Bool
+is_empty None = true
+is_empty (Some s) = false
+
+-- how many numbers are live, how many there are up to the greatest live one, and which are free
+pub record IsCounted (slots : List (Option Slot)) (live numbers : ℕ) (free : List Bool) : Type 0 where
   pub counted : live ≡ len (held slots)
   pub below : (n : ℕ) → IsSome (get (held slots) n) → n < numbers
   pub top : (n : ℕ) → n + 1 ≡ numbers → IsSome (get (held slots) n)
-  pub none_free : (n : ℕ) → n < floor → IsSome (get (held slots) n)
+  pub frees : free ≡ map is_empty slots
   pub fits : live ≤ length slots
   pub within : length slots ≤ NUMBERS
 

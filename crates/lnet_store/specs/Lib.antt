@@ -1,5 +1,6 @@
 pub mod StoreValues
 pub mod Held
 pub mod Fields
-pub mod Remaining
+pub mod Cursors
 pub mod Search
+pub mod Linked

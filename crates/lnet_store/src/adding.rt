@@ -8,10 +8,13 @@ ghost use Rattle.lnet_model.specs.Changes.{with_entry, without, AreLive, IsLeast
 ghost use Rattle.lnet_model.specs.Dags.{NUMBERS, OUTPUTS};
 ghost use Rattle.lnet_gates.specs.Plans.{Takes};
 ghost use Rattle.lnet_store.specs.StoreValues.{raised, with_input, with_new_output};
+ghost use Rattle.lnet_store.specs.Linked.{HasPlaces, KeepChains};
 
 use crate::counting::count_all;
+use crate::linking::{grow_chains, link_all};
 use crate::slots::{NUMBER_LIMIT, Slot};
 use crate::store::{AddError, Store};
+use lnet_chains::Chains;
 use lnet_gates::{Gate, Node, Signal};
 use std::alloc::AllocError;
 
@@ -27,14 +30,16 @@ fn lengthen<T: Copy>(items: &mut Vec<T>, len: usize, value: T) -> Result<(), All
     Ok(())
 }
 
-/// Places for so many inputs, counts and marks, and of the queue. What they hold stays, whatever it answers.
+/// Places for so many inputs, counts and marks, of the queue, and chains. What they hold stays, whatever it answers.
 fn get_places(
     inputs: &mut Vec<Node>,
     counts: &mut Vec<u32>,
     marks: &mut Vec<bool>,
     queue: &mut Vec<u32>,
-    room: usize,
+    chains: &mut Chains,
+    room: u32,
 ) -> Result<(), AllocError>
+    requires room { HasPlaces chains.old × (room ≤ NUMBERS) }
     ensures inputs { inputs.new.items ≡ inputs.old.items }
     ensures capacity { vec_capacity inputs.old ≤ vec_capacity inputs.new }
     ensures counts { (k : ℕ) → slice_index counts.new.items k ≡ slice_index counts.old.items k }
@@ -42,12 +47,14 @@ fn get_places(
     ensures marks { (k : ℕ) → slice_index_or marks.new.items k false ≡ slice_index_or marks.old.items k false }
     ensures marks_grow { length marks.old.items ≤ length marks.new.items }
     ensures queue_grows { vec_capacity queue.old ≤ vec_capacity queue.new }
-    ensures ok { OnOk result ((room ≤ vec_capacity inputs.new) × (room ≤ length counts.new.items) × (room ≤ length marks.new.items) × (room ≤ vec_capacity queue.new)) }
+    ensures chains { KeepChains chains.old chains.new }
+    ensures ok { OnOk result ((room ≤ vec_capacity inputs.new) × (room ≤ length counts.new.items) × (room ≤ length marks.new.items) × (room ≤ vec_capacity queue.new) × (room ≤ length chains.new.lists)) }
 {
-    inputs.reserve(room)?;
-    lengthen(counts, room, 0)?;
-    lengthen(marks, room, false)?;
-    queue.reserve(room)?;
+    inputs.reserve(room as usize)?;
+    lengthen(counts, room as usize, 0)?;
+    lengthen(marks, room as usize, false)?;
+    queue.reserve(room as usize)?;
+    grow_chains(chains, room)?;
     Ok(())
 }
 
@@ -66,7 +73,8 @@ impl Store {
             &mut self.counts,
             &mut self.marks,
             &mut self.queue,
-            room as usize,
+            &mut self.chains,
+            room,
         ) {
             Ok(()) => self.nodes.grow(room),
             Err(error) => Err(error),
@@ -106,8 +114,7 @@ impl Store {
         self.reserve(1)
     }
 
-    /// The least number that isn't live, where there is memory for a node. Linear in the numbers from the one below which
-    /// none is free.
+    /// The least number that isn't live, where there is memory for a node. Constant time.
     fn least_free(&self) -> Node
         requires { 0 < self.now.spare }
         ensures { IsLeastFree self.now.network result.0 }
@@ -145,6 +152,7 @@ impl Store {
         ensures spare { self.old.spare ≡ self.new.spare + 1 }
     {
         count_all(&mut self.counts, &gate.fanins);
+        link_all(&mut self.chains, n, &gate.fanins);
         self.nodes.fill(n, Slot::Gate(gate));
         self.stamp = self.stamp.saturating_add(1);
     }
@@ -165,7 +173,7 @@ impl Store {
 
     /// Adds an input, under the least number that isn't live. `Full` exactly where every number is live; else `NoMemory`
     /// where memory ran out, and never where `spare` is above 0. Refused, it leaves the network as it was. Constant time,
-    /// amortized, while nodes are added only.
+    /// amortized.
     pub fn add_input(&mut self) -> Result<Node, AddError>
         ensures number { IfOk result (λ n. IsLeastFree self.old.network n.0) }
         ensures network { IfOk result (λ n. self.new.network ≡ with_input self.old.network n.0) }
@@ -187,7 +195,7 @@ impl Store {
 
     /// Adds the gate, under the least number that isn't live. Its fanins are live, as many as its operation takes. `Full`
     /// exactly where every number is live; else `NoMemory` where memory ran out, and never where `spare` is above 0. Refused,
-    /// it leaves the network as it was. Constant time, amortized, while nodes are added only.
+    /// it leaves the network as it was. Constant time, amortized.
     pub fn add(&mut self, gate: Gate) -> Result<Node, AddError>
         requires live { AreLive self.old.network (nodes_read gate.fanins) }
         requires arity { Takes gate.op (length gate.fanins) }

@@ -9,6 +9,7 @@ ghost use Rattle.lnet_gates.specs.Plans.{Takes};
 ghost use Rattle.lnet_store.specs.StoreValues.{raised, with_output};
 
 use crate::counting::{count_all, uncount_all};
+use crate::linking::{relink, unlink_all};
 use crate::store::Store;
 use lnet_gates::{Gate, Node, Signal};
 
@@ -28,6 +29,7 @@ impl Store {
         ensures spare { self.old.spare ≤ self.new.spare }
     {
         count_all(&mut self.counts, &gate.fanins);
+        relink(&self.nodes, &mut self.chains, n, &gate.fanins);
         let old = self.nodes.set_gate(n, gate);
         uncount_all(&mut self.counts, &old.fanins);
         self.stamp = self.stamp.saturating_add(1);
@@ -48,6 +50,7 @@ impl Store {
     {
         let old = self.nodes.take_gate(n);
         uncount_all(&mut self.counts, &old.fanins);
+        unlink_all(&mut self.chains, n, &old.fanins);
         self.stamp = self.stamp.saturating_add(1);
         old
     }

@@ -4,6 +4,7 @@
 mod adding;
 mod changing;
 mod counting;
+mod linking;
 mod look;
 mod reaching;
 mod slots;

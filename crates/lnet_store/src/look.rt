@@ -1,15 +1,14 @@
 //! Readers of a store that count what they read.
 
-ghost use Rattle.std.specs.Prelude.{◌≡◌, ℕ, ◌≤◌, ◌<◌, ◌∷◌, [], option_map, length, slice_get, MatchOption, OnSome, IfSome, ◌+◌};
-ghost use Rattle.lnet_model.specs.Networks.{entry_at, fanins_of, gate_at, live_count};
-ghost use Rattle.lnet_model.specs.Along.{at_entry};
+ghost use Rattle.std.specs.Prelude.{◌≡◌, ℕ, ◌≤◌, ◌∷◌, [], option_map, length, MatchOption};
+ghost use Rattle.lnet_model.specs.Networks.{gate_at, live_count};
 ghost use Rattle.lnet_model.specs.Fanouts.{fan};
 ghost use Rattle.lnet_model.specs.Dags.{IsStored, NUMBERS};
 ghost use Rattle.lnet_store.specs.StoreValues.{raised, IsOneOf};
-ghost use Rattle.lnet_store.specs.Remaining.{named_still};
 
 use crate::store::Store;
-use lnet_gates::{Gate, Node, Signal};
+use lnet_chains::Chains;
+use lnet_gates::{Gate, Node};
 use std::marker::Model;
 
 /// A counter of reads, for one state of a store.
@@ -106,71 +105,55 @@ impl<'a> Look<'a> {
         ensures all { (p : ℕ × ℕ) → IsOneOf p (fan self.now.network n.0) → IsOneOf p result.rest }
         ensures stamp { result.stamp ≡ self.now.stamp }
     {
-        Parents {
-            store: self.store,
-            node: n,
-            at: 0,
-            slot: 0,
-        }
+        self.store.parents(n)
     }
 }
 
 /// The parents of a node that are still to come.
 ///
-/// A cursor over the slots of all gates: it stands at a slot of the gate at a number. A contract sees the pairs that are
-/// still to come, in the order in which they come, and the stamp of the store.
+/// A cursor over the chain of the slots whose fanin is the node. A contract sees the pairs that are still to come, in the order in
+/// which they come, and the stamp of the store.
 #[derive(Drop)]
 pub struct Parents<'a> {
-    store: &'a Store,
+    chains: &'a Chains,
     node: Node,
-    at: u32,
-    slot: u8,
+    at: Option<u32>,
+    stamp: u64,
 }
 
 impl<'a> Model for Parents<'a> {
-    ghost use Rattle.std.specs.Prelude.{◌≤◌};
+    ghost use Rattle.std.specs.Prelude.{◌≡◌, ℕ, Some};
+    ghost use Rattle.lnet_chains.specs.Lists.{Within, list_of};
     ghost use Rattle.lnet_store.specs.StoreValues.{ParentsLeft};
-    ghost use Rattle.lnet_store.specs.Remaining.{named_still};
+    ghost use Rattle.lnet_store.specs.Cursors.{still};
 
     ghost Value = { ParentsLeft };
 
-    ghost view = { λ p. record { rest = named_still p.store.now.network p.node.0 p.at p.slot; stamp = p.store.now.stamp } };
+    ghost view = { λ p. record { rest = still p.at (list_of p.chains.now p.node.0); stamp = p.stamp } };
 
-    ghost invariant = { λ p. p.slot ≤ 6 };
+    ghost invariant = { λ p. (x : ℕ) → p.at ≡ Some x → Within x (list_of p.chains.now p.node.0) };
 }
 
-/// The fanin at the slot of the gate at the number; `None` exactly where there is none.
-fn fanin_at(store: &Store, n: u32, slot: u8) -> Option<Signal>
-    ensures value { result ≡ slice_get (at_entry [] fanins_of (entry_at store.now.network n)) slot }
-    ensures six { OnSome result (slot < 6) }
-{
-    let gate = store.gate_of(Node(n))?;
-    gate.fanins.get(slot as usize).copied()
-}
-
-/// From a slot of the gate at a number on, the next slot whose fanin is the node.
-fn next_named(store: &Store, n: Node, at: u32, slot: u8) -> Option<(u32, u8)>
-    requires { slot ≤ 6 }
-    ensures found { MatchOption result (named_still store.now.network n.0 at slot ≡ []) (λ p. named_still store.now.network n.0 at slot ≡ p ∷ named_still store.now.network n.0 p.0 (p.1 + 1)) }
-    ensures six { IfSome result (λ p. p.1 < 6) }
-{
-    let (mut at, mut slot) = (at, slot);
-    'slots: while at < store.numbers() {
-        match fanin_at(store, at, slot) {
-            Some(fanin) if fanin.node.0 == n.0 => return Some((at, slot)),
-            Some(_) => slot += 1,
-            None => {
-                at += 1;
-                slot = 0;
-            }
+impl Store {
+    /// The parents of the node: each pair of a parent and a slot whose fanin is the node once.
+    fn parents(&self, n: Node) -> Parents<'_>
+        ensures len { length result.rest ≡ length (fan self.now.network n.0) }
+        ensures each { (p : ℕ × ℕ) → IsOneOf p result.rest → IsOneOf p (fan self.now.network n.0) }
+        ensures all { (p : ℕ × ℕ) → IsOneOf p (fan self.now.network n.0) → IsOneOf p result.rest }
+        ensures stamp { result.stamp ≡ self.now.stamp }
+    {
+        Parents {
+            chains: &self.chains,
+            node: n,
+            at: self.chains.first(n.0),
+            stamp: self.stamp,
         }
     }
-    None
 }
 
 impl<'a> Parents<'a> {
     /// The next parent and slot; `None` exactly where all were given. Each pair that is given counts as one read, for the
-    /// stamp of the store that is read. Going over all of them is linear in the store's numbers and fanins.
+    /// stamp of the store that is read. Constant time.
     pub fn next(&mut self, visits: &mut Visits) -> Option<(Node, u8)>
         requires { visits.old.stamp ≡ self.old.stamp }
         ensures given { MatchOption result (self.old.rest ≡ []) (λ p. self.old.rest ≡ (p.0.0, p.1) ∷ self.new.rest) }
@@ -179,18 +162,10 @@ impl<'a> Parents<'a> {
         ensures stamp { visits.new.stamp ≡ visits.old.stamp }
         ensures count { MatchOption result (visits.new.count ≡ visits.old.count) (λ _. visits.new.count ≡ raised visits.old.count) }
     {
-        match next_named(self.store, self.node, self.at, self.slot) {
-            Some((at, slot)) => {
-                self.at = at;
-                self.slot = slot + 1;
-                visits.count_one();
-                Some((Node(at), slot))
-            }
-            None => {
-                self.at = self.store.numbers();
-                self.slot = 0;
-                None
-            }
-        }
+        let _apart = self.chains.places();
+        let place = self.at?;
+        self.at = self.chains.next(place);
+        visits.count_one();
+        Some((Node(place / 6), (place % 6) as u8))
     }
 }

@@ -2,10 +2,12 @@
 
 ghost use Rattle.std.specs.Prelude.{◌≡◌, ◌≤◌, ◌<◌, ◌+◌, ◌↔◌, ℕ, IsTrue, IsSome, None, Some, IfOk, OnOk, OnErr, option_map, slice_index_or, ◌++◌, ◌-◌, length, replicate, slice_set};
 ghost use Rattle.std.specs.FinMap.{get, len, insert, remove, empty};
+ghost use Rattle.std.specs.Vec.{vec_len, vec_capacity};
 ghost use Rattle.lnet_model.specs.Networks.{Constant, Input, IsGate, gate_in};
 ghost use Rattle.lnet_model.specs.Dags.{NUMBERS};
 ghost use Rattle.lnet_store.specs.Held.{entry_of, entry_in, IsFitting};
 
+use lnet_free::FreeNumbers;
 use lnet_gates::{Gate, Node};
 use std::alloc::{AllocError, Global};
 use std::marker::Model;
@@ -35,15 +37,13 @@ fn slot_at(slots: &[Option<Slot>], n: Node) -> Option<&Slot>
     }
 }
 
-/// A slot for each number that there is room for, empty where the number isn't live.
-///
-/// No number below `floor` is free: a new node sets it past itself, and a removed node lowers it to itself.
+/// A slot for each number that there is room for, empty where the number isn't live, and which are.
 #[derive(Drop)]
 pub(crate) struct NodeSlots {
     slots: Vec<Option<Slot>>,
     live: u32,
     numbers: u32,
-    floor: u32,
+    free: FreeNumbers,
 }
 
 impl Model for NodeSlots {
@@ -56,21 +56,17 @@ impl Model for NodeSlots {
 
     ghost view = { λ s. record { nodes = held s.slots.items; room = length s.slots.items } };
 
-    ghost invariant = { λ s. IsCounted s.slots.items s.live s.numbers s.floor };
+    ghost invariant = { λ s. IsCounted s.slots.items s.live s.numbers s.free };
 }
 
-/// So many empty slots more.
-fn extend(slots: &mut Vec<Option<Slot>>, more: u32) -> Result<(), AllocError>
-    ensures items { slots.new.items ≡ slots.old.items ++ replicate (length slots.new.items - length slots.old.items) None }
-    ensures ok { OnOk result (length slots.new.items ≡ length slots.old.items + more) }
-    ensures err { OnErr result (length slots.new.items ≡ length slots.old.items) }
-    ensures most { length slots.new.items ≤ length slots.old.items + more }
+/// So many empty slots more, for which there is room. Linear in them.
+fn extend(slots: &mut Vec<Option<Slot>>, more: u32)
+    requires { vec_len slots.old + more ≤ vec_capacity slots.old }
+    ensures { slots.new.items ≡ slots.old.items ++ replicate more None }
 {
-    slots.reserve(more as usize)?;
     'slots: for _ in 0..more {
         slots.push_reserved(None);
     }
-    Ok(())
 }
 
 /// Puts something else into the slot of the number, and gives back what was in it.
@@ -116,11 +112,14 @@ impl NodeSlots {
     {
         let mut slots = Vec::new(alloc);
         slots.push(Some(Slot::Constant))?;
+        let mut free = FreeNumbers::new(alloc);
+        free.grow(1)?;
+        free.take(0);
         Ok(NodeSlots {
             slots,
             live: 1,
             numbers: 1,
-            floor: 1,
+            free,
         })
     }
 
@@ -195,21 +194,23 @@ impl NodeSlots {
         ensures fitting { IsFitting self.new }
     {
         let more = room - self.slots.len() as u32;
-        extend(&mut self.slots, more)
+        self.slots.reserve(more as usize)?;
+        self.free.grow(room)?;
+        extend(&mut self.slots, more);
+        Ok(())
     }
 
-    /// The least number that isn't live. Linear in the numbers from the one below which none is free.
+    /// The least number that isn't live. Constant time.
     pub(crate) fn next_free(&self) -> Node
         requires { len self.now.nodes < self.now.room }
         ensures free { get self.now.nodes result.0 ≡ None }
         ensures least { (m : ℕ) → m < result.0 → IsSome (get self.now.nodes m) }
         ensures within { result.0 < self.now.room }
     {
-        let mut n = self.floor;
-        'search: while self.is_live(Node(n)) {
-            n += 1;
+        match self.free.least() {
+            Some(n) => Node(n),
+            None => unreachable!(),
         }
-        Node(n)
     }
 
     /// Fills the slot of the least number that isn't live. Constant time.
@@ -225,7 +226,7 @@ impl NodeSlots {
         self.slots[n.0 as usize] = Some(slot);
         self.live += 1;
         self.numbers = self.numbers.max(n.0 + 1);
-        self.floor = n.0 + 1;
+        self.free.take(n.0);
     }
 
     /// Sets another gate at a gate's number, and gives the old one back. Constant time.
@@ -250,7 +251,7 @@ impl NodeSlots {
         let old = exchange(&mut self.slots, n, None);
         self.live -= 1;
         self.numbers = top_of(&self.slots, self.numbers);
-        self.floor = self.floor.min(n.0);
+        self.free.give(n.0);
         gate_from(old)
     }
 }

@@ -7,8 +7,10 @@ ghost use Rattle.lnet_model.specs.Dags.{IsStored, AreBelow, numbers_of, NUMBERS}
 ghost use Rattle.lnet_store.specs.StoreValues.{first_network};
 
 use crate::counting::count_of;
+use crate::linking::grow_chains;
 use crate::look::{Look, Visits};
 use crate::slots::NodeSlots;
+use lnet_chains::Chains;
 use lnet_gates::{Gate, Node, Signal};
 use std::alloc::{AllocError, Global};
 use std::marker::Model;
@@ -27,7 +29,6 @@ pub enum AddError {
 /// A contract sees the network, for how many new nodes there is memory (`spare`), and the stamp: a `u64` that rises by one at
 /// each change of the network, its inputs or its outputs, and stays at its last value. Every store keeps of its network that
 /// it has no cycle, that what is named is live, and that each gate has as many fanins as its operation takes.
-#[derive(Drop)]
 pub struct Store {
     pub(crate) nodes: NodeSlots,
     pub(crate) inputs: Vec<Node>,
@@ -36,6 +37,23 @@ pub struct Store {
     pub(crate) counts: Vec<u32>,
     pub(crate) marks: Vec<bool>,
     pub(crate) queue: Vec<u32>,
+    pub(crate) chains: Chains,
+}
+
+impl Drop for Store {
+    /// Lets its fields go. Where a value ends this is called; a derived one would be written out there.
+    fn drop(self) {
+        let Self {
+            nodes: _,
+            inputs: _,
+            outputs: _,
+            stamp: _,
+            counts: _,
+            marks: _,
+            queue: _,
+            chains: _,
+        } = self;
+    }
 }
 
 impl Model for Store {
@@ -45,6 +63,7 @@ impl Model for Store {
     ghost use Rattle.lnet_model.specs.Dags.{IsStored};
     ghost use Rattle.lnet_store.specs.StoreValues.{StoreValue, store_code};
     ghost use Rattle.lnet_store.specs.Fields.{network_of, HasRoom, AreReferences};
+    ghost use Rattle.lnet_store.specs.Linked.{AreLinked};
 
     ghost Value = { StoreValue };
 
@@ -52,7 +71,7 @@ impl Model for Store {
 
     ghost view = { λ s. record { network = network_of s.nodes.nodes s.inputs.items s.outputs.items; spare = s.nodes.room - len s.nodes.nodes; stamp = s.stamp } };
 
-    ghost invariant = { λ s. IsStored (network_of s.nodes.nodes s.inputs.items s.outputs.items) × HasRoom s.nodes (vec_capacity s.inputs) s.inputs.items s.counts.items s.marks.items (vec_capacity s.queue) × AreReferences s.counts.items (network_of s.nodes.nodes s.inputs.items s.outputs.items) };
+    ghost invariant = { λ s. IsStored (network_of s.nodes.nodes s.inputs.items s.outputs.items) × HasRoom s.nodes (vec_capacity s.inputs) s.inputs.items s.counts.items s.marks.items (vec_capacity s.queue) × AreReferences s.counts.items (network_of s.nodes.nodes s.inputs.items s.outputs.items) × AreLinked s.chains s.nodes.room (network_of s.nodes.nodes s.inputs.items s.outputs.items) };
 }
 
 impl Store {
@@ -68,6 +87,8 @@ impl Store {
         let mut marks = Vec::new(alloc);
         marks.push(false)?;
         let queue = Vec::with_capacity(alloc, 1)?;
+        let mut chains = Chains::new(alloc);
+        grow_chains(&mut chains, 1)?;
         Ok(Store {
             nodes,
             inputs,
@@ -76,6 +97,7 @@ impl Store {
             counts,
             marks,
             queue,
+            chains,
         })
     }
 

@@ -13,9 +13,15 @@ use std::marker::Model;
 /// A finite map from keys to a node and its phase, in which each node stands under one key at most.
 ///
 /// It has room for the nodes below a number. Each of them has its own place, so that keys come and go without memory.
-#[derive(Drop)]
 pub struct Strash {
     chains: Chains,
+}
+
+impl Drop for Strash {
+    /// Lets its fields go. Where a value ends this is called; a derived one would be written out there.
+    fn drop(self) {
+        let Self { chains: _ } = self;
+    }
 }
 
 impl Model for Strash {

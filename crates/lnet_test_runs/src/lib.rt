@@ -4,6 +4,8 @@
 #[cfg(test)]
 mod binary;
 #[cfg(test)]
+mod chains;
+#[cfg(test)]
 mod contents;
 #[cfg(test)]
 mod counting;

@@ -12,6 +12,8 @@ mod forms;
 #[cfg(test)]
 mod laid;
 #[cfg(test)]
+mod numbers;
+#[cfg(test)]
 mod proposals;
 #[cfg(test)]
 mod recipes;

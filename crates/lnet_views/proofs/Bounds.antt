@@ -22,7 +22,7 @@ use Rattle.lnet_model.proofs.Changes.{with_entry-here, with_entry-apart}
 use Rattle.lnet_views.proofs.Pair.{both, eqb-same, eqb-is, pair-lawful, pair-over}
 use Rattle.lnet_views.proofs.Count.{fanouts-grow}
 
-bounds-grow : (N : NetworkValue) (d e : ℕ → Bool) → ((x : ℕ) → d x ≡ true → e x ≡ true) → reads_of N d ≤ reads_of N e
+pub bounds-grow : (N : NetworkValue) (d e : ℕ → Bool) → ((x : ℕ) → d x ≡ true → e x ≡ true) → reads_of N d ≤ reads_of N e
 unfolding reads_of fanouts_in
 bounds-grow N d e h = let k = fanouts-grow N d e (keys N.nodes) h in omega arith
 

@@ -39,9 +39,15 @@ impl Rule for LevelsAlone {
 /// of its fanins' levels.
 ///
 /// Memory: four lists of an optional `u32` each, by number or by level; and the stack while it is attached.
-#[derive(Drop)]
 pub struct DepthView {
     follow: Follow<LevelsAlone>,
+}
+
+impl Drop for DepthView {
+    /// Lets its fields go. Where a value ends this is called; a derived one would be written out there.
+    fn drop(self) {
+        let Self { follow: _ } = self;
+    }
 }
 
 impl DepthView {

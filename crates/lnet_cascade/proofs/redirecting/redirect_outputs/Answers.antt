@@ -4,6 +4,7 @@ use Rattle.lnet_gates.specs.declared.signal.Signal.{Signal}
 use Rattle.lnet_model.specs.Networks.{NetworkValue, IsLive}
 use Rattle.lnet_store.specs.StoreValues.{with_output}
 use Rattle.lnet_substitution.specs.Replaced.{redirected}
+use Rattle.lnet_cascade.proofs.RedirectedAll.{outputs-same}
 use Rattle.lnet_cascade.proofs.Outputs.{outputs_half, half-entry, half-start, half-count, half-all, half-next, half-past, redirected-is-live}
 use Rattle.lnet_cascade.proofs.redirecting.redirect_outputs.Goals as goal
 use Rattle.lnet_cascade.proofs.redirecting.redirect_outputs.Goals.{in-Some, in_default}
@@ -55,3 +56,6 @@ returns-clause-network c =
     let auto = c.loop-k.auto.k-end in
     let e : c.loop-k.k ≡ length c.args.store.now.network.outputs = omega arith in
     c.loop-k.invariant.half ∙ ap (outputs_half N c.args.redirection.from.0 c.args.redirection.to) e ∙ half-all N c.args.redirection.from.0 c.args.redirection.to
+
+pub returns-then-refs-eq0-clause-network : goal.returns-then-refs-eq0-clause-network
+returns-then-refs-eq0-clause-network c = sym (outputs-same c.args.store.now.network c.args.redirection.from.0 c.args.redirection.to (sym c.refs.ensures ∙ c.if-refs-eq0.true))

@@ -3,7 +3,7 @@ use Rattle.lnet_model.specs.Networks.{entry_at, gate_in, live_count}
 use Rattle.lnet_model.specs.Along.{In, fanin_nodes}
 use Rattle.lnet_model.specs.Changes.{IsGateAt, without}
 use Rattle.lnet_model.specs.Fanouts.{references}
-use Rattle.lnet_model.specs.Dags.{numbers_of, AreBelow}
+use Rattle.lnet_model.specs.Dags.{AreBelow}
 use Rattle.lnet_hashed.specs.Watches.{AreFitIn}
 use Rattle.lnet_hashed.proofs.Indexing.{indexed-same}
 use Rattle.lnet_cascade.proofs.DirtySteps.{no_self}
@@ -16,13 +16,13 @@ pub remove-requires-clause-gate : goal.remove-requires-clause-gate
 remove-requires-clause-gate g c =
     let C = c.args.hashed.now.store.network in
     subst (λ N. IsGateAt N c.args.redirection.from.0) (sym c.redirect_outputs.ensures.network)
-    (all-gate C c.redirect_gates.new.hashed.store.network c.args.redirection.from.0 c.args.redirection.to (numbers_of C) c.numbers-first.ensures.within c.redirect_gates.ensures.redirected c.requires.free c.requires.live c.requires.gate)
+    (all-gate C c.redirect_gates.new.hashed.store.network c.args.redirection.from.0 c.args.redirection.to c.redirect_gates.ensures.redirected c.requires.free c.requires.live c.requires.gate)
 
 pub remove-requires-clause-free : goal.remove-requires-clause-free
 remove-requires-clause-free g c =
     let C = c.args.hashed.now.store.network in
     ap (λ N. references N c.args.redirection.from.0) c.redirect_outputs.ensures.network
-    ∙ all-free C c.redirect_gates.new.hashed.store.network c.args.redirection.from.0 c.args.redirection.to (numbers_of C) c.numbers-first.ensures.within c.redirect_gates.ensures.redirected c.requires.free c.requires.live c.requires.gate
+    ∙ all-free C c.redirect_gates.new.hashed.store.network c.args.redirection.from.0 c.args.redirection.to c.redirect_gates.ensures.redirected c.requires.free c.requires.live c.requires.gate
 
 pub remove-requires-clause-midway : goal.remove-requires-clause-midway
 remove-requires-clause-midway g c =
@@ -56,7 +56,7 @@ pub returns-clause-network : goal.returns-clause-network
 returns-clause-network g c =
     let C = c.args.hashed.now.store.network in
     c.remove.ensures.network ∙ ap (λ N. without N c.args.redirection.from.0) c.redirect_outputs.ensures.network
-    ∙ all-replaced C c.redirect_gates.new.hashed.store.network c.args.redirection.from.0 c.args.redirection.to (numbers_of C) c.numbers-first.ensures.within c.redirect_gates.ensures.redirected c.requires.free c.requires.live c.requires.gate
+    ∙ all-replaced C c.redirect_gates.new.hashed.store.network c.args.redirection.from.0 c.args.redirection.to c.redirect_gates.ensures.redirected c.requires.free c.requires.live c.requires.gate
 
 pub returns-clause-count : goal.returns-clause-count
 returns-clause-count g c =

@@ -4,13 +4,14 @@ use Rattle.lnet_model.specs.Networks.{IsGate, gate_in}
 use Rattle.lnet_store.specs.Held.{Numbered, held, entry_in, IsCounted}
 use Rattle.lnet_store.specs.declared.slots.Slot.{Slot}
 use Rattle.lnet_store.specs.declared.slots.Slot.TheVariants as slot
-use Rattle.lnet_store.proofs.SlotLemmas.{fitting, get-held, there-inside, counted-set, gate-live, held-set}
+use Rattle.lnet_store.proofs.SlotLemmas.{get-held, held-set}
+use Rattle.lnet_store.proofs.CountedSlots.{fitting, there-inside, counted-set, gate-live}
 use Rattle.lnet_store.proofs.slots.NodeSlots.set_gate.Goals as goal
 
 pub exchange-requires : goal.exchange-requires
 exchange-requires c =
     let e = ap (λ (h : Numbered). h.nodes) c.self.view_is in
-    there-inside c.self.inside.slots.items c.self.inside.live c.self.inside.numbers c.self.inside.floor c.self.invariant c.args.n.0 (subst (λ m. IsSome (get m c.args.n.0)) (sym e) (gate-live c.args.self.now.nodes c.args.n.0 c.requires))
+    there-inside c.self.inside.slots.items c.self.inside.live c.self.inside.numbers c.self.inside.free c.self.invariant c.args.n.0 (subst (λ m. IsSome (get m c.args.n.0)) (sym e) (gate-live c.args.self.now.nodes c.args.n.0 c.requires))
 
 pub gate_from-requires : goal.gate_from-requires
 gate_from-requires c =
@@ -20,12 +21,12 @@ gate_from-requires c =
 pub invariant_of-self : goal.invariant_of-self
 invariant_of-self c =
     let e = ap (λ (h : Numbered). h.nodes) c.self.view_is in
-    subst (λ (xs : List (Option Slot)). IsCounted xs c.self.inside.live c.self.inside.numbers c.self.inside.floor) (sym c.exchange.ensures.new) (counted-set c.self.inside.slots.items c.self.inside.live c.self.inside.numbers c.self.inside.floor c.self.invariant c.args.n.0 (subst (λ m. IsSome (get m c.args.n.0)) (sym e) (gate-live c.args.self.now.nodes c.args.n.0 c.requires)) (slot.Gate c.args.gate))
+    subst (λ (xs : List (Option Slot)). IsCounted xs c.self.inside.live c.self.inside.numbers c.self.inside.free) (sym c.exchange.ensures.new) (counted-set c.self.inside.slots.items c.self.inside.live c.self.inside.numbers c.self.inside.free c.self.invariant c.args.n.0 (subst (λ m. IsSome (get m c.args.n.0)) (sym e) (gate-live c.args.self.now.nodes c.args.n.0 c.requires)) (slot.Gate c.args.gate))
 
 pub returns-clause-nodes : goal.returns-clause-nodes
 returns-clause-nodes c =
     let e = ap (λ (h : Numbered). h.nodes) c.self.view_is in
-    ap held c.exchange.ensures.new ∙ held-set c.self.inside.slots.items c.args.n.0 (slot.Gate c.args.gate) (there-inside c.self.inside.slots.items c.self.inside.live c.self.inside.numbers c.self.inside.floor c.self.invariant c.args.n.0 (subst (λ m. IsSome (get m c.args.n.0)) (sym e) (gate-live c.args.self.now.nodes c.args.n.0 c.requires))) ∙ ap (λ m. insert m c.args.n.0 (IsGate c.args.gate)) e
+    ap held c.exchange.ensures.new ∙ held-set c.self.inside.slots.items c.args.n.0 (slot.Gate c.args.gate) (there-inside c.self.inside.slots.items c.self.inside.live c.self.inside.numbers c.self.inside.free c.self.invariant c.args.n.0 (subst (λ m. IsSome (get m c.args.n.0)) (sym e) (gate-live c.args.self.now.nodes c.args.n.0 c.requires))) ∙ ap (λ m. insert m c.args.n.0 (IsGate c.args.gate)) e
 
 pub returns-clause-old : goal.returns-clause-old
 returns-clause-old c =
@@ -35,7 +36,7 @@ returns-clause-old c =
 pub returns-clause-fitting : goal.returns-clause-fitting
 returns-clause-fitting c =
     let e = ap (λ (h : Numbered). h.nodes) c.self.view_is in
-    fitting c.exchange.new.slots.items c.self.inside.live c.self.inside.numbers c.self.inside.floor (subst (λ (xs : List (Option Slot)). IsCounted xs c.self.inside.live c.self.inside.numbers c.self.inside.floor) (sym c.exchange.ensures.new) (counted-set c.self.inside.slots.items c.self.inside.live c.self.inside.numbers c.self.inside.floor c.self.invariant c.args.n.0 (subst (λ m. IsSome (get m c.args.n.0)) (sym e) (gate-live c.args.self.now.nodes c.args.n.0 c.requires)) (slot.Gate c.args.gate)))
+    fitting c.exchange.new.slots.items c.self.inside.live c.self.inside.numbers c.self.inside.free (subst (λ (xs : List (Option Slot)). IsCounted xs c.self.inside.live c.self.inside.numbers c.self.inside.free) (sym c.exchange.ensures.new) (counted-set c.self.inside.slots.items c.self.inside.live c.self.inside.numbers c.self.inside.free c.self.invariant c.args.n.0 (subst (λ m. IsSome (get m c.args.n.0)) (sym e) (gate-live c.args.self.now.nodes c.args.n.0 c.requires)) (slot.Gate c.args.gate)))
 
 pub returns-clause-room : goal.returns-clause-room
 returns-clause-room c = ap (λ (xs : List (Option Slot)). length xs) c.exchange.ensures.new ∙ length-set c.self.inside.slots.items c.args.n.0 (Some (slot.Gate c.args.gate)) ∙ ap (λ (h : Numbered). h.room) c.self.view_is

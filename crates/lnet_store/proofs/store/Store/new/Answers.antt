@@ -1,6 +1,9 @@
 use Rattle.std.proofs.Common.{◌≡◌, ℕ, zero, suc, [], ◌∷◌, ◌++◌, length, false, get_or, refl, ap, subst, sym, ◌∙◌, arith}
 use Rattle.lnet_model.specs.Dags.{IsStored}
 use Rattle.lnet_store.specs.Fields.{AreReferences, network_of}
+use Rattle.lnet_store.specs.Linked.{AreLinked}
+use Rattle.lnet_chains.specs.Lists.{list_of}
+use Rattle.lnet_store.proofs.LinkLemmas.{linked-first}
 use Rattle.lnet_store.proofs.StoreLemmas.{network-first, first-stored, first-references}
 use Rattle.lnet_store.proofs.store.Store.new.Goals as goal
 
@@ -28,4 +31,7 @@ invariant_of-result c =
         queue_fits = omega (arith, c.in_ok-queue.ensures.capacity, c.in_ok-nodes.ensures.room);
       },
       subst (λ xs. AreReferences xs (network_of c.in_ok-nodes.nodes.nodes c.in_ok-inputs.inputs.items c.new-2.result.items)) (sym counts) named,
+      subst (AreLinked c.grow_chains.new.chains c.in_ok-nodes.nodes.room) (sym first)
+          (linked-first c.grow_chains.new.chains c.in_ok-nodes.nodes.room c.in_ok-grow_chains.ensures.chains.places
+          (let r = c.in_ok-nodes.ensures.room in let k = c.in_ok-grow_chains.ensures.ok in omega arith) (λ m. c.in_ok-grow_chains.ensures.chains.same m ∙ ap (λ v. list_of v m) c.new-chains.ensures)),
     )

@@ -1,0 +1,5 @@
+mod Listing
+mod Chaining
+mod Changing
+mod Growing
+mod Shown

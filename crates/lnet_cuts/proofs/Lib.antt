@@ -1,0 +1,14 @@
+mod Items
+mod Meaning
+mod LeafSets
+mod Members
+mod Choices
+mod Best
+mod Unions
+mod Combos
+mod TableRows
+mod KeptCuts
+mod NextChoice
+mod MadeCuts
+mod ChangedCuts
+mod ViewLemmas

@@ -1,0 +1,4 @@
+pub mod Stored
+pub mod Agreeing
+pub mod Candidates
+pub mod CutViews

@@ -31,14 +31,14 @@ beq-self false = refl
 
 -- what stands under the key in the table is the clean gate with it
 module _ (N : NetworkValue) (keys : Keys) (numbers : ℕ) (I : IsIndexed N keys numbers) (k : KeyValue) where
-  pub holder-of : (s : Signal) → at keys.table s.node.0 ≡ Some (k, s.complement) → IsCleanHolder N keys.dirty.items k s
+  pub holder-of : (s : Signal) → at keys.table s.node.0 ≡ Some (k, s.complement) → IsCleanHolder N keys.dirty k s
   holder-of s h = let c = stands-clean N keys numbers I s.node.0 k s.complement h in record { gate = c.gate; at = c.at; clean = c.clean; key = c.key; phase = c.phase }
 
   -- where nothing does, no clean gate has the key
-  pub unused-of : ((m : ℕ) (p : Bool) → at keys.table m ≢ Some (k, p)) → IsUnusedKey N (marks_of keys.dirty.items) k
+  pub unused-of : ((m : ℕ) (p : Bool) → at keys.table m ≢ Some (k, p)) → IsUnusedKey N (marks_of keys.dirty) k
   unused-of absent n g here clean is = absent n g.phase (clean-stands N keys numbers I n g here clean ∙ ap (λ z. Some (z, g.phase)) is)
 
-  pub absent-of : IsUnusedKey N (marks_of keys.dirty.items) k → (m : ℕ) (p : Bool) → at keys.table m ≢ Some (k, p)
+  pub absent-of : IsUnusedKey N (marks_of keys.dirty) k → (m : ℕ) (p : Bool) → at keys.table m ≢ Some (k, p)
   absent-of unused m p h = let c = stands-clean N keys numbers I m k p h in unused m c.gate c.at c.clean c.key
 
 -- nothing stands under a key that isn't found

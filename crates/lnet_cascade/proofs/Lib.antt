@@ -7,6 +7,9 @@ pub mod Holders
 pub mod Marking
 pub mod DirtySteps
 pub mod Named
+pub mod NoteSteps
+pub mod NoteLemmas
+pub mod LostGates
 pub mod Whole
 pub mod TestLemmas
 pub mod Parents

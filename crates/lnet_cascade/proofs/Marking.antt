@@ -21,7 +21,7 @@ cleared bs x n hx h = elim (eqb_tells n x) as (λ _. (marks_of bs n ≡ true) ×
 pub still : (bs : List Bool) (x n : ℕ) → marks_of bs n ≡ true → n ≢ x → marks_of (slice_set bs x false) n ≡ true
 still bs x n h ne = get_or-set_other bs x n false false ne ∙ h
 
-clear-here : (bs : List Bool) (x : ℕ) → marks_of (slice_set bs x false) x ≡ false
+pub clear-here : (bs : List Bool) (x : ℕ) → marks_of (slice_set bs x false) x ≡ false
 clear-here [] x = refl
 clear-here (b ∷ bs) zero = refl
 clear-here (b ∷ bs) (suc x) = clear-here bs x

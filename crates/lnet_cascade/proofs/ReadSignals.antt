@@ -19,3 +19,15 @@ pub read-at : (n : ℕ) (ss : List Signal) (i : ℕ) (d : Signal) → i < length
 read-at n [] i d lt e = absurd (omega arith)
 read-at n (s ∷ ss) zero d lt e = inl (sym e)
 read-at n (s ∷ ss) (suc i) d lt e = inr (read-at n ss i d (omega arith) e)
+
+-- what is read stays so with one more signal, and that one is read
+pub read-before : (n : ℕ) (ss : List Signal) (i : ℕ) → In n (nodes_read (take i ss)) → In n (nodes_read (take (suc i) ss))
+read-before n ss zero h = absurd h
+read-before n [] (suc i) h = h
+read-before n (s ∷ ss) (suc i) (inl e) = inl e
+read-before n (s ∷ ss) (suc i) (inr j) = inr (read-before n ss i j)
+
+pub read-last : (n : ℕ) (ss : List Signal) (i : ℕ) (d : Signal) → i < length ss → n ≡ (get_or ss i d).node.0 → In n (nodes_read (take (suc i) ss))
+read-last n [] i d lt e = absurd (omega arith)
+read-last n (s ∷ ss) zero d lt e = inl e
+read-last n (s ∷ ss) (suc i) d lt e = inr (read-last n ss i d (omega arith) e)

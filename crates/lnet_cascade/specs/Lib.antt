@@ -1,4 +1,5 @@
 pub mod Marks
+pub mod Noting
 pub mod Redirections
 pub mod Rooms
 pub mod Cascading

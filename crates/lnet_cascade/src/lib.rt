@@ -3,6 +3,7 @@
 
 mod cascading;
 mod losing;
+mod noting;
 mod redirecting;
 mod substituting;
 

@@ -1,88 +1,68 @@
 //! Removing the gates that lost their last reference, and so on downward.
 #![tactic(auto, using(lnet_hashed::proofs::KeptViews::told_twice, lnet_hashed::proofs::KeptViews::told_same))]
 
-ghost use Rattle.std.specs.Prelude.{◌≡◌, ◌≤◌, ◌<◌, ◌↔◌, ℕ, IsTrue, cond, false, length};
-ghost use Rattle.lnet_model.specs.Networks.{live_count};
-ghost use Rattle.lnet_model.specs.Changes.{without};
-ghost use Rattle.lnet_model.specs.Dags.{AreBelow};
+ghost use Rattle.std.specs.Prelude.{◌≡◌, ◌<◌, ◌↔◌, ℕ, IsTrue, true};
+ghost use Rattle.lnet_model.specs.Networks.{NetworkValue};
+ghost use Rattle.lnet_hashed.specs.Indexed.{AllClean};
 ghost use Rattle.lnet_hashed.specs.Rooms.{HasRoom};
+ghost use Rattle.lnet_hashed.specs.Swept.{IsUnnamed};
 ghost use Rattle.lnet_hashed.specs.Watches.{AreFitBy, AreToldBy};
-ghost use Rattle.lnet_cascade.specs.Losing.{AreNoted, IsLost, Drops};
+ghost use Rattle.lnet_cascade.specs.Cascading.{left};
+ghost use Rattle.lnet_cascade.specs.Losing.{Drops, IsLost};
+ghost use Rattle.lnet_cascade.specs.Marks.{marks_of};
+ghost use Rattle.lnet_cascade.specs.Noting.{AreNoted};
+ghost use Rattle.lnet_cascade.specs.Rooms.{IsMidway, StaysMidway};
 
-use crate::cascading::is_marked;
+use crate::noting::clear;
+use crate::redirecting::remove;
 use lnet_gates::Node;
-use lnet_hashed::{Hashed, Watch, remove};
+use lnet_hashed::{Hashed, Watch};
 use lnet_store::{Store, View};
 
-/// Marks the numbers below the end that are named.
-pub(crate) fn note_named(store: &Store, named: &mut Vec<bool>, end: u32)
-    requires { end ≤ length named.old.items }
-    ensures noted { AreNoted store.now.network end named.new.items }
-    ensures len { length named.new.items ≡ length named.old.items }
+/// Whether a gate stands at the number that nothing names. Constant time.
+fn is_unnamed(store: &Store, n: Node) -> bool
+    ensures { IsTrue result ↔ IsUnnamed store.now.network n.0 }
 {
-    for n in 0..end {
-        named[n as usize] = store.refs(Node(n)) > 0;
-    }
-}
-
-/// Removes the gate at the number where it was named and isn't any more, and tells the views. Whether it did.
-fn drop_lost(hashed: &mut Hashed, watch: &mut Watch, n: Node) -> bool
-    requires room { HasRoom hashed.old }
-    requires fit { AreFitBy ⟦<dyn View as View>⟧ hashed.old.store.network hashed.old.room watch.old }
-    ensures answer { IsTrue result ↔ IsLost hashed.old.store.network hashed.old.named.items n.0 }
-    ensures network { hashed.new.store.network ≡ cond result (without hashed.old.store.network n.0) hashed.old.store.network }
-    ensures room { HasRoom hashed.new }
-    ensures same { hashed.new.room ≡ hashed.old.room }
-    ensures named { hashed.new.named.items ≡ hashed.old.named.items }
-    ensures told { AreToldBy ⟦<dyn View as View>⟧ hashed.new.store.network hashed.new.room watch.old watch.new }
-{
-    if !is_marked(&hashed.named, n.0) {
+    if store.gate_of(n).is_none() || store.refs(n) > 0 {
         return false;
     }
-    if hashed.store.gate_of(n).is_none() || hashed.store.refs(n) > 0 {
-        return false;
-    }
-    remove(hashed, watch, n);
     true
 }
 
-/// Removes the gates below the end that were named and aren't any more, from the greatest number down: also those that nothing
-/// names once the ones above went. Whether it removed one.
-fn pass(hashed: &mut Hashed, watch: &mut Watch, end: u32) -> bool
-    requires below { AreBelow hashed.old.store.network end }
-    requires room { HasRoom hashed.old }
+/// Takes a number that is noted as lost: where a gate stands there that nothing names, it is removed, and the views are told. Then
+/// the number is noted no more.
+fn drop_lost(hashed: &mut Hashed, watch: &mut Watch, n: Node)
+    requires lost { marks_of hashed.old.notes.lost n.0 ≡ true }
+    requires midway { IsMidway hashed.old }
+    requires clean { AllClean hashed.old.keys }
     requires fit { AreFitBy ⟦<dyn View as View>⟧ hashed.old.store.network hashed.old.room watch.old }
-    ensures drops { Drops end hashed.old.named.items hashed.old.store.network hashed.new.store.network }
-    ensures fewer { IsTrue result → live_count hashed.new.store.network < live_count hashed.old.store.network }
-    ensures none { result ≡ false → (n : ℕ) → IsLost hashed.new.store.network hashed.old.named.items n → ⊥ }
-    ensures below { AreBelow hashed.new.store.network end }
-    ensures room { HasRoom hashed.new }
-    ensures same { hashed.new.room ≡ hashed.old.room }
-    ensures named { hashed.new.named.items ≡ hashed.old.named.items }
+    ensures drops { Drops hashed.old.store.network hashed.old.notes hashed.new.store.network }
+    ensures less { left hashed.new.store.network hashed.new.notes.lost < left hashed.old.store.network hashed.old.notes.lost }
+    ensures midway { StaysMidway hashed.old hashed.new }
+    ensures clean { AllClean hashed.new.keys }
     ensures told { AreToldBy ⟦<dyn View as View>⟧ hashed.new.store.network hashed.new.room watch.old watch.new }
 {
-    let _live = hashed.store.live_count();
-    let mut removed = false;
-    for n in (0..end).rev() {
-        if drop_lost(hashed, watch, Node(n)) {
-            removed = true;
-        }
+    if !is_unnamed(&hashed.store, n) {
+        hashed.notes.lost.remove(n.0);
+        return;
     }
-    removed
+    remove(hashed, watch, n);
+    hashed.notes.lost.remove(n.0);
 }
 
-/// Removes the gates below the end that were named and aren't any more, and so on downward. Passes over the numbers follow until
-/// one removes nothing.
-pub(crate) fn sweep_lost(hashed: &mut Hashed, watch: &mut Watch, end: u32)
-    requires below { AreBelow hashed.old.store.network end }
-    requires room { HasRoom hashed.old }
+/// Removes the gates that lost their last reference, and so on downward. Then nothing is noted. It looks at what is noted alone.
+pub(crate) fn sweep_lost(hashed: &mut Hashed, watch: &mut Watch)
+    requires midway { IsMidway hashed.old }
+    requires clean { AllClean hashed.old.keys }
     requires fit { AreFitBy ⟦<dyn View as View>⟧ hashed.old.store.network hashed.old.room watch.old }
-    ensures drops { Drops end hashed.old.named.items hashed.old.store.network hashed.new.store.network }
-    ensures none { (n : ℕ) → IsLost hashed.new.store.network hashed.old.named.items n → ⊥ }
+    ensures drops { Drops hashed.old.store.network hashed.old.notes hashed.new.store.network }
+    ensures none { (N : NetworkValue) → AreNoted N hashed.old.store.network hashed.old.notes → (n : ℕ) → IsLost N hashed.new.store.network n → ⊥ }
     ensures room { HasRoom hashed.new }
     ensures same { hashed.new.room ≡ hashed.old.room }
-    ensures named { hashed.new.named.items ≡ hashed.old.named.items }
     ensures told { AreToldBy ⟦<dyn View as View>⟧ hashed.new.store.network hashed.new.room watch.old watch.new }
 {
-    'passes: while pass(hashed, watch, end) {}
+    'lost: while let Some(n) = hashed.notes.lost.least() {
+        drop_lost(hashed, watch, Node(n));
+    }
+    clear(&mut hashed.notes.fresh);
 }

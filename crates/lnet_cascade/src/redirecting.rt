@@ -9,12 +9,14 @@ ghost use Rattle.lnet_model.specs.Fanouts.{references};
 ghost use Rattle.lnet_substitution.specs.Replaced.{redirected, replaced};
 ghost use Rattle.lnet_hashed.specs.Watches.{AreFitBy, AreToldBy};
 ghost use Rattle.lnet_cascade.specs.Marks.{MarkedMore};
+ghost use Rattle.lnet_cascade.specs.Noting.{CanNoteAll, NotesFollow};
 ghost use Rattle.lnet_cascade.specs.Redirections.{RedirectedAll, RedirectedAt, outputs_redirected};
 ghost use Rattle.lnet_cascade.specs.Rooms.{IsMidway, StaysMidway};
 
+use crate::noting::{note, remove_gate, set_gate};
 use arrayvec::ArrayVec;
 use lnet_gates::{Gate, Node, Signal};
-use lnet_hashed::{Hashed, Watch};
+use lnet_hashed::{Hashed, Notes, Watch};
 use lnet_store::{Event, Store, View};
 
 /// Each reference to a node is to read a signal in its place.
@@ -86,7 +88,7 @@ fn redirect_at(hashed: &mut Hashed, watch: &mut Watch, n: u32, redirection: Redi
     requires midway { IsMidway hashed.old }
     requires fit { AreFitBy ⟦<dyn View as View>⟧ hashed.old.store.network hashed.old.room watch.old }
     ensures redirected { RedirectedAt hashed.old.store.network redirection.from.0 redirection.to n hashed.new.store.network }
-    ensures dirty { MarkedMore (λ m. (m ≡ n) × In redirection.from.0 (fanin_nodes (entry_at hashed.old.store.network m))) hashed.old.keys.dirty.items hashed.new.keys.dirty.items }
+    ensures dirty { MarkedMore (λ m. (m ≡ n) × In redirection.from.0 (fanin_nodes (entry_at hashed.old.store.network m))) hashed.old.keys.dirty hashed.new.keys.dirty }
     ensures midway { StaysMidway hashed.old hashed.new }
     ensures told { AreToldBy ⟦<dyn View as View>⟧ hashed.new.store.network hashed.new.room watch.old watch.new }
 {
@@ -94,7 +96,7 @@ fn redirect_at(hashed: &mut Hashed, watch: &mut Watch, n: u32, redirection: Redi
     if let Some(gate) = hashed.store.gate_of(Node(n)) {
         if redirection.concerns(gate) {
             let new = redirection.of_gate(gate);
-            let old = hashed.store.set_gate(Node(n), new);
+            let old = set_gate(&mut hashed.store, &mut hashed.notes, Node(n), new);
             hashed.keys.soil(Node(n));
             watch.tell(&hashed.store, &Event::Modified(Node(n), old), hashed.room);
         }
@@ -121,7 +123,7 @@ fn redirect_gates(hashed: &mut Hashed, watch: &mut Watch, redirection: Redirecti
     requires midway { IsMidway hashed.old }
     requires fit { AreFitBy ⟦<dyn View as View>⟧ hashed.old.store.network hashed.old.room watch.old }
     ensures redirected { RedirectedAll hashed.old.store.network redirection.from.0 redirection.to hashed.new.store.network }
-    ensures dirty { MarkedMore (λ m. In redirection.from.0 (fanin_nodes (entry_at hashed.old.store.network m))) hashed.old.keys.dirty.items hashed.new.keys.dirty.items }
+    ensures dirty { MarkedMore (λ m. In redirection.from.0 (fanin_nodes (entry_at hashed.old.store.network m))) hashed.old.keys.dirty hashed.new.keys.dirty }
     ensures midway { StaysMidway hashed.old hashed.new }
     ensures told { AreToldBy ⟦<dyn View as View>⟧ hashed.new.store.network hashed.new.room watch.old watch.new }
 {
@@ -130,15 +132,12 @@ fn redirect_gates(hashed: &mut Hashed, watch: &mut Watch, redirection: Redirecti
     }
 }
 
-/// Redirects each output, where one names the node. A change of an output is no event.
-fn redirect_outputs(store: &mut Store, redirection: Redirection)
+/// Redirects each output. A change of an output is no event. Linear in the outputs.
+fn redirect_each_output(store: &mut Store, redirection: Redirection)
     requires { IsLive store.old.network redirection.to.node.0 }
     ensures network { store.new.network ≡ outputs_redirected store.old.network redirection.from.0 redirection.to }
     ensures spare { store.old.spare ≤ store.new.spare }
 {
-    if store.refs(redirection.from) == 0 {
-        return;
-    }
     for k in 0..store.output_count() {
         if let Some(signal) = store.output(k) {
             store.set_output(k, redirection.of(signal));
@@ -146,20 +145,37 @@ fn redirect_outputs(store: &mut Store, redirection: Redirection)
     }
 }
 
+/// Redirects each output, where one names the node.
+fn redirect_outputs(store: &mut Store, notes: &mut Notes, redirection: Redirection)
+    requires live { IsLive store.old.network redirection.to.node.0 }
+    requires live_from { IsLive store.old.network redirection.from.0 }
+    requires room { CanNoteAll store.old.network notes.old }
+    ensures network { store.new.network ≡ outputs_redirected store.old.network redirection.from.0 redirection.to }
+    ensures spare { store.old.spare ≤ store.new.spare }
+    ensures noted { NotesFollow store.old.network notes.old store.new.network notes.new }
+{
+    if store.refs(redirection.from) == 0 {
+        return;
+    }
+    note(&mut notes.fresh, &notes.lost, store, redirection.to.node);
+    redirect_each_output(store, redirection);
+    note(&mut notes.lost, &notes.fresh, store, redirection.from);
+}
+
 /// Removes a gate that nothing names, and tells the views.
-fn remove(hashed: &mut Hashed, watch: &mut Watch, n: Node)
+pub(crate) fn remove(hashed: &mut Hashed, watch: &mut Watch, n: Node)
     requires gate { IsGateAt hashed.old.store.network n.0 }
     requires free { references hashed.old.store.network n.0 ≡ 0 }
     requires midway { IsMidway hashed.old }
     requires fit { AreFitBy ⟦<dyn View as View>⟧ hashed.old.store.network hashed.old.room watch.old }
     ensures network { hashed.new.store.network ≡ without hashed.old.store.network n.0 }
-    ensures dirty { hashed.new.keys.dirty.items ≡ slice_set hashed.old.keys.dirty.items n.0 false }
+    ensures dirty { hashed.new.keys.dirty ≡ slice_set hashed.old.keys.dirty n.0 false }
     ensures count { live_count hashed.new.store.network + 1 ≡ live_count hashed.old.store.network }
     ensures midway { StaysMidway hashed.old hashed.new }
     ensures told { AreToldBy ⟦<dyn View as View>⟧ hashed.new.store.network hashed.new.room watch.old watch.new }
 {
     let _live = hashed.store.live_count();
-    let gate = hashed.store.remove(n);
+    let gate = remove_gate(&mut hashed.store, &mut hashed.notes, n);
     hashed.keys.forget(n);
     watch.tell(&hashed.store, &Event::Deleted(n, gate), hashed.room);
 }
@@ -173,13 +189,13 @@ pub(crate) fn replace(hashed: &mut Hashed, watch: &mut Watch, redirection: Redir
     requires midway { IsMidway hashed.old }
     requires fit { AreFitBy ⟦<dyn View as View>⟧ hashed.old.store.network hashed.old.room watch.old }
     ensures network { hashed.new.store.network ≡ replaced hashed.old.store.network redirection.from.0 redirection.to }
-    ensures dirty { MarkedMore (λ m. In redirection.from.0 (fanin_nodes (entry_at hashed.old.store.network m))) (slice_set hashed.old.keys.dirty.items redirection.from.0 false) hashed.new.keys.dirty.items }
+    ensures dirty { MarkedMore (λ m. In redirection.from.0 (fanin_nodes (entry_at hashed.old.store.network m))) (slice_set hashed.old.keys.dirty redirection.from.0 false) hashed.new.keys.dirty }
     ensures count { live_count hashed.new.store.network + 1 ≡ live_count hashed.old.store.network }
     ensures midway { StaysMidway hashed.old hashed.new }
     ensures told { AreToldBy ⟦<dyn View as View>⟧ hashed.new.store.network hashed.new.room watch.old watch.new }
 {
     let _first = hashed.store.numbers();
     redirect_gates(hashed, watch, redirection);
-    redirect_outputs(&mut hashed.store, redirection);
+    redirect_outputs(&mut hashed.store, &mut hashed.notes, redirection);
     remove(hashed, watch, redirection.from);
 }

@@ -11,7 +11,7 @@ ghost use Rattle.lnet_hashed.specs.Rooms.{HasRoom};
 ghost use Rattle.lnet_substitution.specs.Substitutions.{Substitutes};
 
 use crate::cascading::cascade;
-use crate::losing::{note_named, sweep_lost};
+use crate::losing::sweep_lost;
 use crate::redirecting::{Redirection, replace};
 use lnet_gates::{Gates, Node, Signal};
 use lnet_hashed::{Hashed, Watch};
@@ -26,8 +26,9 @@ use lnet_store::View;
 /// `Modified` for all slots of a gate that change at once, one `Deleted` for each gate that goes. A change of an output is no
 /// event.
 ///
-/// It takes no memory, and can't be refused. Each gate that goes or that takes another form costs a look at each number, for the
-/// next dirty gate; its parents are found by their chain, and a key in constant time on average. The rest is what the views take.
+/// It takes no memory, and can't be refused. It costs what it touches: each gate that goes, that takes another form or that reads
+/// one that goes takes constant time, on average for its key, and amortized where the greatest number goes; where an output reads
+/// one that goes, each output is looked at. The rest is what the views take.
 pub fn substitute<G: Gates>(hashed: &mut Hashed, watch: &mut Watch, gate: Node, signal: Signal)
     requires strashed { IsStrashed G.KIND hashed.old.store.network }
     requires gate { IsGateAt hashed.old.store.network gate.0 }
@@ -41,14 +42,13 @@ pub fn substitute<G: Gates>(hashed: &mut Hashed, watch: &mut Watch, gate: Node, 
     ensures same { hashed.new.room ≡ hashed.old.room }
     ensures told { AreToldBy ⟦<dyn View as View>⟧ hashed.new.store.network hashed.new.room watch.old watch.new }
 {
-    let end = hashed.store.numbers();
+    let _first = hashed.store.live_count();
     let redirection = Redirection {
         from: gate,
         to: signal,
     };
-    note_named(&hashed.store, &mut hashed.named, end);
     replace(hashed, watch, redirection);
     cascade::<G>(hashed, watch);
     let _merged = hashed.store.live_count();
-    sweep_lost(hashed, watch, end);
+    sweep_lost(hashed, watch);
 }

@@ -1,5 +1,5 @@
 -- The gate with a key, number by number.
-use Rattle.std.proofs.Common.{◌≡◌, ℕ, ◌-◌, List, ap}
+use Rattle.std.proofs.Common.{◌≡◌, ℕ, List, ap}
 use Rattle.std.specs.Prelude.{slice_get}
 use Rattle.lnet_gates.specs.declared.signal.Signal.{Signal}
 use Rattle.lnet_gates.specs.Gates.{KeyValue}

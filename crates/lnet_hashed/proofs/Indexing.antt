@@ -40,16 +40,16 @@ dirty-stands None = refl
 dirty-stands (Some g) = refl
 
 -- the table and the marks change at n alone, and so do the gates
-pub indexed-after : (N M : NetworkValue) (old new : Keys) (n numbers : ℕ) (b : Bool) → n < length old.dirty.items → new.dirty.items ≡ slice_set old.dirty.items n b → at new.table n ≡ stands_for (gate_at M n) b → ((m : ℕ) → m ≢ n → at new.table m ≡ at old.table m) → room new.table ≡ room old.table → KeysDiffer new.table → IsIndexed N old numbers → HasGatesBeside N M n → IsIndexed M new numbers
+pub indexed-after : (N M : NetworkValue) (old new : Keys) (n numbers : ℕ) (b : Bool) → n < length old.dirty → new.dirty ≡ slice_set old.dirty n b → at new.table n ≡ stands_for (gate_at M n) b → ((m : ℕ) → m ≢ n → at new.table m ≡ at old.table m) → room new.table ≡ room old.table → KeysDiffer new.table → IsIndexed N old numbers → HasGatesBeside N M n → IsIndexed M new numbers
 indexed-after N M old new n numbers b low dirty here beside same_room differ I gates = record {
-  dirty_long = subst (λ z. numbers ≤ z) (sym (ap length dirty ∙ length-set old.dirty.items n b)) I.dirty_long;
+  dirty_long = subst (λ z. numbers ≤ z) (sym (ap length dirty ∙ length-set old.dirty n b)) I.dirty_long;
   table_long = subst (λ z. numbers ≤ z) (sym same_room) I.table_long;
-  stands = λ m. elim (eqb_tells m n) as (λ _. at new.table m ≡ stands_for (gate_at M m) (slice_index_or new.dirty.items m false)) [
-    | inl p ↦ subst (λ z. at new.table z ≡ stands_for (gate_at M z) (slice_index_or new.dirty.items z false)) (sym p.1) (here ∙ ap (stands_for (gate_at M n)) (sym (ap (λ bs. slice_index_or bs n false) dirty ∙ get_or-set_same old.dirty.items n b false low)))
+  stands = λ m. elim (eqb_tells m n) as (λ _. at new.table m ≡ stands_for (gate_at M m) (slice_index_or new.dirty m false)) [
+    | inl p ↦ subst (λ z. at new.table z ≡ stands_for (gate_at M z) (slice_index_or new.dirty z false)) (sym p.1) (here ∙ ap (stands_for (gate_at M n)) (sym (ap (λ bs. slice_index_or bs n false) dirty ∙ get_or-set_same old.dirty n b false low)))
     | inr p ↦
         beside m p.1 ∙ I.stands m
-        ∙ ap (λ g. stands_for g (slice_index_or old.dirty.items m false)) (sym (gates m p.1))
-        ∙ ap (stands_for (gate_at M m)) (sym (ap (λ bs. slice_index_or bs m false) dirty ∙ get_or-set_other old.dirty.items n m b false p.1))
+        ∙ ap (λ g. stands_for g (slice_index_or old.dirty m false)) (sym (gates m p.1))
+        ∙ ap (stands_for (gate_at M m)) (sym (ap (λ bs. slice_index_or bs m false) dirty ∙ get_or-set_other old.dirty n m b false p.1))
   ];
   differ = differ;
 }
@@ -78,14 +78,14 @@ stood (Some (Input i)) b k p h = cc
 stood (Some (IsGate g)) true k p h = cc
 stood (Some (IsGate g)) false k p h = record { gate = g; at = refl; key = key-is (key_of g) (key_of g, g.phase) (k, p) h; phase = place-phase (key_of g, g.phase) (k, p) h; clean = refl }
 
-pub stands-clean : (N : NetworkValue) (keys : Keys) (numbers : ℕ) → IsIndexed N keys numbers → (n : ℕ) (k : KeyValue) (p : Bool) → at keys.table n ≡ Some (k, p) → IsCleanAt N keys.dirty.items n k p
+pub stands-clean : (N : NetworkValue) (keys : Keys) (numbers : ℕ) → IsIndexed N keys numbers → (n : ℕ) (k : KeyValue) (p : Bool) → at keys.table n ≡ Some (k, p) → IsCleanAt N keys.dirty n k p
 stands-clean N keys numbers I n k p h =
-    let s = stood (entry_at N n) (slice_index_or keys.dirty.items n false) k p (sym (I.stands n) ∙ h) in
+    let s = stood (entry_at N n) (slice_index_or keys.dirty n false) k p (sym (I.stands n) ∙ h) in
     record { gate = s.gate; at = s.at; key = s.key; phase = s.phase; clean = s.clean }
 
 -- and a clean gate stands
-pub clean-stands : (N : NetworkValue) (keys : Keys) (numbers : ℕ) → IsIndexed N keys numbers → (n : ℕ) (g : GateValue) → GateAt N n g → slice_index_or keys.dirty.items n false ≡ false → at keys.table n ≡ Some (key_of g, g.phase)
-clean-stands N keys numbers I n g e clean = I.stands n ∙ ap (λ o. stands_for (gate_in o) (slice_index_or keys.dirty.items n false)) e ∙ ap (stands_for (Some g)) clean
+pub clean-stands : (N : NetworkValue) (keys : Keys) (numbers : ℕ) → IsIndexed N keys numbers → (n : ℕ) (g : GateValue) → GateAt N n g → slice_index_or keys.dirty n false ≡ false → at keys.table n ≡ Some (key_of g, g.phase)
+clean-stands N keys numbers I n g e clean = I.stands n ∙ ap (λ o. stands_for (gate_in o) (slice_index_or keys.dirty n false)) e ∙ ap (stands_for (Some g)) clean
 
 -- ---- where all gates are clean, the table has what is found
 
@@ -133,6 +133,6 @@ pub indexed-same : (N M : NetworkValue) (keys : Keys) (numbers : ℕ) → ((m : 
 indexed-same N M keys numbers same I = record {
   dirty_long = I.dirty_long;
   table_long = I.table_long;
-  stands = λ m. I.stands m ∙ ap (λ g. stands_for g (slice_index_or keys.dirty.items m false)) (sym (same m));
+  stands = λ m. I.stands m ∙ ap (λ g. stands_for g (slice_index_or keys.dirty m false)) (sym (same m));
   differ = I.differ;
 }

@@ -15,14 +15,14 @@ stands_for (Some g) false = Some (key_of g, g.phase)
 -- just the clean gates of N stand in the table, each under its key and with its phase, and no two under one key; there is a
 -- mark and a place for each number below the room
 pub record IsIndexed (N : NetworkValue) (keys : Keys) (numbers : ℕ) : Type 0 where
-  pub dirty_long : numbers ≤ length keys.dirty.items
+  pub dirty_long : numbers ≤ length keys.dirty
   pub table_long : numbers ≤ room keys.table
-  pub stands : (n : ℕ) → at keys.table n ≡ stands_for (gate_at N n) (slice_index_or keys.dirty.items n false)
+  pub stands : (n : ℕ) → at keys.table n ≡ stands_for (gate_at N n) (slice_index_or keys.dirty n false)
   pub differ : KeysDiffer keys.table
 
 -- no gate is dirty
 abbrev pub AllClean : Keys → Type 0
-AllClean keys = (n : ℕ) → slice_index_or keys.dirty.items n false ≡ false
+AllClean keys = (n : ℕ) → slice_index_or keys.dirty n false ≡ false
 
 -- M has the gates of N at all numbers but n
 abbrev pub HasGatesBeside : NetworkValue → NetworkValue → ℕ → Type 0

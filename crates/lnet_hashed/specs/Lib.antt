@@ -2,6 +2,7 @@ pub mod Strashed
 pub mod Laid
 pub mod Views
 pub mod Indexed
+pub mod Noted
 pub mod Rooms
 pub mod Undoing
 pub mod Swept

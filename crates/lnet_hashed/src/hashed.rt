@@ -15,25 +15,26 @@ ghost use Rattle.lnet_hashed.specs.Strashed.{same_op, same_signals, same_key, ke
 ghost use Rattle.lnet_hashed.specs.Watches.{AreFitBy, AreToldBy};
 ghost use Rattle.lnet_hashed.specs.Rooms.{HasRoom};
 
-use crate::keys::{Keys, lengthen};
+use crate::keys::Keys;
 use crate::making::gate_of;
+use crate::notes::Notes;
 use crate::watch::Watch;
 use lnet_gates::{Gate, Key, Node, Op, Signal};
 use lnet_store::{AddError, Event, NUMBER_LIMIT, Store, View};
 use std::alloc::{AllocError, Global};
 
-/// A store, the keys of its gates, and for how many numbers, from 0, the store, the keys, the marks and each of the views have
+/// A store, the keys of its gates, and for how many numbers, from 0, the store, the keys, the notes and each of the views have
 /// memory.
 ///
-/// Each call here keeps `HasRoom`: the network's numbers are below the room, the store has memory for so many, there are marks
-/// for each, and each gate stands under its key.
+/// Each call here keeps `HasRoom`: the network's numbers are below the room, the store has memory for so many, there is room for
+/// notes of each, none is noted, and each gate stands under its key.
 pub struct Hashed {
     /// The network.
     pub store: Store,
     /// Which gate has a key.
     pub keys: Keys,
-    /// By number whether it had a reference when the last substitution began.
-    pub named: Vec<bool>,
+    /// Which numbers gained a first reference or lost their last one; empty but while a substitution runs.
+    pub notes: Notes,
     /// For how many numbers there is memory.
     pub room: u32,
 }
@@ -44,7 +45,7 @@ impl Drop for Hashed {
         let Self {
             store: _,
             keys: _,
-            named: _,
+            notes: _,
             room: _,
         } = self;
     }
@@ -60,12 +61,12 @@ impl Hashed {
         let _live = store.live_count();
         let mut keys = Keys::new(alloc)?;
         keys.reserve(1)?;
-        let mut named = Vec::new(alloc);
-        lengthen(&mut named, 1)?;
+        let mut notes = Notes::new(alloc);
+        notes.reserve(1)?;
         Ok(Hashed {
             store,
             keys,
-            named,
+            notes,
             room: 1,
         })
     }
@@ -128,7 +129,7 @@ pub(crate) fn find(hashed: &Hashed, key: &Key) -> Option<Signal>
     hashed.keys.find(key)
 }
 
-/// Gets memory for `numbers` numbers in the store, for keys and marks, and in each view.
+/// Gets memory for `numbers` numbers in the store, for keys and notes, and in each view.
 pub fn reserve(hashed: &mut Hashed, watch: &mut Watch, numbers: u32) -> Result<(), AllocError>
     requires room { HasRoom hashed.old }
     requires more { hashed.old.room ≤ numbers }
@@ -145,7 +146,7 @@ pub fn reserve(hashed: &mut Hashed, watch: &mut Watch, numbers: u32) -> Result<(
     let live = hashed.store.live_count();
     hashed.store.reserve(numbers.saturating_sub(live))?;
     hashed.keys.reserve(numbers)?;
-    lengthen(&mut hashed.named, numbers as usize)?;
+    hashed.notes.reserve(numbers)?;
     watch.reserve(&hashed.store, hashed.room, numbers)?;
     hashed.room = numbers;
     Ok(())
@@ -219,7 +220,6 @@ pub fn remove(hashed: &mut Hashed, watch: &mut Watch, n: Node)
     ensures network { hashed.new.store.network ≡ without hashed.old.store.network n.0 }
     ensures room { HasRoom hashed.new }
     ensures same { hashed.new.room ≡ hashed.old.room }
-    ensures named { hashed.new.named ≡ hashed.old.named }
     ensures told { AreToldBy ⟦<dyn View as View>⟧ hashed.new.store.network hashed.new.room watch.old watch.new }
 {
     let _live = hashed.store.live_count();

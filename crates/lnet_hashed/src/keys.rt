@@ -5,10 +5,12 @@ ghost use Rattle.lnet_gates.specs.declared.signal.Signal.{Signal as SignalValue}
 ghost use Rattle.lnet_gates.specs.NormalLaws.{keyed_gate};
 ghost use Rattle.lnet_model.specs.Networks.{NetworkValue, gate_at};
 ghost use Rattle.lnet_model.specs.Changes.{GateAt};
+ghost use Rattle.lnet_model.specs.Dags.{NUMBERS};
 ghost use Rattle.lnet_strash.specs.Standing.{at, room as places};
 ghost use Rattle.lnet_hashed.specs.Indexed.{AllClean, HasGatesBeside, IsIndexed};
 
 use lnet_gates::{Key, Node, Signal};
+use lnet_numbers::NumberSet;
 use lnet_strash::Strash;
 use std::alloc::{AllocError, Global};
 
@@ -19,8 +21,8 @@ use std::alloc::{AllocError, Global};
 pub struct Keys {
     /// The clean gates by their keys.
     pub(crate) table: Strash,
-    /// By number whether the gate is dirty.
-    pub dirty: Vec<bool>,
+    /// The numbers of the dirty gates.
+    pub dirty: NumberSet,
 }
 
 impl Drop for Keys {
@@ -30,16 +32,17 @@ impl Drop for Keys {
     }
 }
 
-/// Lengthens the list by `false` to at least so many items. Linear in the items to come.
-pub(crate) fn lengthen(items: &mut Vec<bool>, len: usize) -> Result<(), AllocError>
-    ensures same { (n : ℕ) → slice_index_or items.new.items n false ≡ slice_index_or items.old.items n false }
-    ensures grows { length items.old.items ≤ length items.new.items }
-    ensures long { OnOk result (len ≤ length items.new.items) }
+/// Gets room for at least so many numbers, and adds no member. Linear in the numbers to come.
+pub(crate) fn widen(set: &mut NumberSet, numbers: u32) -> Result<(), AllocError>
+    requires { numbers ≤ NUMBERS }
+    ensures same { (n : ℕ) → slice_index_or set.new n false ≡ slice_index_or set.old n false }
+    ensures grows { length set.old ≤ length set.new }
+    ensures long { OnOk result (numbers ≤ length set.new) }
 {
-    if items.len() >= len {
+    if set.room() >= numbers {
         return Ok(());
     }
-    items.resize(len, false)
+    set.grow(numbers, false)
 }
 
 impl Keys {
@@ -51,17 +54,18 @@ impl Keys {
         let table = Strash::new(alloc)?;
         Ok(Keys {
             table,
-            dirty: Vec::new(alloc),
+            dirty: NumberSet::new(alloc),
         })
     }
 
     /// Gets memory for the keys and marks of so many numbers. Whatever it answers, the keys and marks are as before.
     pub(crate) fn reserve(&mut self, numbers: u32) -> Result<(), AllocError>
-        ensures dirty { (n : ℕ) → slice_index_or self.new.dirty.items n false ≡ slice_index_or self.old.dirty.items n false }
+        requires { numbers ≤ NUMBERS }
+        ensures dirty { (n : ℕ) → slice_index_or self.new.dirty n false ≡ slice_index_or self.old.dirty n false }
         ensures kept { (N : NetworkValue) (room : ℕ) → IsIndexed N self.old room → IsIndexed N self.new room }
         ensures long { OnOk result ((N : NetworkValue) (room : ℕ) → IsIndexed N self.old room → IsIndexed N self.new numbers) }
     {
-        lengthen(&mut self.dirty, numbers as usize)?;
+        widen(&mut self.dirty, numbers)?;
         self.table.reserve(numbers)?;
         Ok(())
     }
@@ -78,34 +82,34 @@ impl Keys {
 
     /// Lets the gate at a number be dirty: it stands under no key. Constant time on average.
     pub fn soil(&mut self, n: Node)
-        requires { n.0 < length self.old.dirty.items }
-        ensures dirty { self.new.dirty.items ≡ slice_set self.old.dirty.items n.0 true }
+        requires { n.0 < length self.old.dirty }
+        ensures dirty { self.new.dirty ≡ slice_set self.old.dirty n.0 true }
         ensures indexed { (N M : NetworkValue) (room : ℕ) → IsIndexed N self.old room → HasGatesBeside N M n.0 → IsIndexed M self.new room }
     {
         self.table.release(n);
-        self.dirty[n.0 as usize] = true;
+        self.dirty.insert(n.0);
     }
 
     /// Forgets the gate at a number, which goes. Constant time on average.
     pub fn forget(&mut self, n: Node)
-        requires { n.0 < length self.old.dirty.items }
-        ensures dirty { self.new.dirty.items ≡ slice_set self.old.dirty.items n.0 false }
+        requires { n.0 < length self.old.dirty }
+        ensures dirty { self.new.dirty ≡ slice_set self.old.dirty n.0 false }
         ensures indexed { (N M : NetworkValue) (room : ℕ) → IsIndexed N self.old room → HasGatesBeside N M n.0 → gate_at M n.0 ≡ None → IsIndexed M self.new room }
     {
         self.table.release(n);
-        self.dirty[n.0 as usize] = false;
+        self.dirty.remove(n.0);
     }
 
     /// Lets a gate stand under its key, which no gate has: it is clean. Constant time.
     pub fn enter(&mut self, key: Key, n: Node, phase: bool)
-        requires marked { n.0 < length self.old.dirty.items }
+        requires marked { n.0 < length self.old.dirty }
         requires placed { n.0 < places self.old.table }
         requires free { at self.old.table n.0 ≡ None }
         requires absent { (m : ℕ) (p : Bool) → at self.old.table m ≢ Some (key, p) }
-        ensures dirty { self.new.dirty.items ≡ slice_set self.old.dirty.items n.0 false }
+        ensures dirty { self.new.dirty ≡ slice_set self.old.dirty n.0 false }
         ensures indexed { (N M : NetworkValue) (room : ℕ) → IsIndexed N self.old room → HasGatesBeside N M n.0 → GateAt M n.0 (keyed_gate key phase) → IsIndexed M self.new room }
     {
         self.table.insert(key, n, phase);
-        self.dirty[n.0 as usize] = false;
+        self.dirty.remove(n.0);
     }
 }

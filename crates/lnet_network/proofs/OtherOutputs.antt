@@ -100,7 +100,8 @@ room-outputs h s is more old =
       below = λ n live. old.below n (subst IsSome (same n) live);
       stored = omega arith;
       limit = old.limit;
-      named = old.named;
+      noting = old.noting;
+      blank = old.blank;
       indexed = indexed-same h.store.network s.network h.keys h.room (λ n. ap gate_in (same n)) old.indexed;
       clean = old.clean;
     }

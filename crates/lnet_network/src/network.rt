@@ -170,7 +170,7 @@ impl<G: Gates> Network<G> {
     }
 
     /// A new input, under the least number that isn't live. `Full` exactly where every number is live; `NoMemory` never where
-    /// `spare` is above 0. Refused, the network is as it was. Constant time, amortized, while nodes are added only.
+    /// `spare` is above 0. Refused, the network is as it was. Constant time, amortized.
     pub fn input(&mut self) -> Result<Signal, AddError>
         requires in_step { AreFitBy ⟦<dyn View as View>⟧ self.old.core.network self.old.core.room self.old.watch }
         ensures entered { IfOk result (λ s. IsEntered self.old.core.network self.new.core.network s) }

@@ -17,8 +17,9 @@ impl<G: Gates> Network<G> {
     /// where need be; the gates that lose their last reference go. `gate` stands for a gate, and `signal` is live and doesn't
     /// depend on it. Each view is told each single change, after it was made.
     ///
-    /// It takes no memory, and can't be refused. Each gate that goes or that takes another form costs a look at each number, for its
-    /// parents and for the next gate; a key is found in constant time on average. The rest is what the views take.
+    /// It takes no memory, and can't be refused. It costs what it touches: each gate that goes, that takes another form or that reads
+    /// one that goes takes constant time, on average for its key, and amortized where the greatest number goes; where an output
+    /// reads one that goes, each output is looked at. The rest is what the views take.
     pub fn substitute(&mut self, gate: Node, signal: Signal)
         requires gate { IsGateAt self.old.core.network gate.0 }
         requires live { IsLive self.old.core.network signal.node.0 }

@@ -53,7 +53,7 @@ use Rattle.lnet_model.specs.Slots.{nodes_of}
 use Rattle.lnet_store.specs.Held.{entry_of, entry_in, is_empty, held, IsCounted, IsFitting}
 use Rattle.lnet_store.specs.declared.slots.Slot.{Slot}
 use Rattle.lnet_store.specs.declared.slots.Slot.TheVariants as slot
-use Rattle.lnet_store.proofs.FreeSlots.{frees-set, frees-grown, frees-there, empty-frees, set-same, out-none, in-some}
+use Rattle.lnet_store.proofs.FreeSlots.{frees-set, frees-grown, frees-there, set-same, in-some}
 use Rattle.lnet_store.proofs.SlotLemmas.{get-held, held-set, held-clear, held-inside, held-grown, some-in, all-live}
 
 -- ---- how the numbers are counted
@@ -89,9 +89,6 @@ module _ (slots : List (Option Slot)) (live numbers : ℕ) (free : List Bool) (c
     (least : (m : ℕ) → m < n → IsSome (get (held slots) m)) (space : len (held slots) < length slots) where
   pub free-inside : n < length slots
   free-inside = let h = all-live (held slots) n least in omega arith
-
-  pub free-is : get_or free n false ≡ true
-  free-is = ap (λ fs. get_or fs n false) c.frees ∙ empty-frees slots n free-inside (out-none (get_or slots n None) (sym (get-held slots n) ∙ unheld))
 
   filled-here : IsSome (get (held (set slots n (Some s))) n)
   filled-here = subst IsSome (sym (ap (λ m. get m n) (held-set slots n s free-inside) ∙ insert_here (held slots) n (entry_of s))) refl
@@ -159,10 +156,6 @@ module _ (slots : List (Option Slot)) (live numbers : ℕ) (free : List Bool) (c
 
   there-here : IsSome (get_or slots n None)
   there-here = in-some (get_or slots n None) (subst IsSome (get-held slots n) there)
-
-  -- it isn't free
-  pub there-taken : get_or free n false ≡ false
-  there-taken = ap (λ fs. get_or fs n false) c.frees ∙ frees-there slots n there-here
 
   set-live : (s : Slot) (m : ℕ) → IsSome (get (held slots) m) → IsSome (get (held (set slots n (Some s))) m)
   set-live s m h = elim (eqb_tells m n) as (λ _. IsSome (get (held (set slots n (Some s))) m)) [

@@ -34,12 +34,6 @@ frees-empty (None ∷ ss) zero h = refl
 frees-empty (Some s ∷ ss) zero h = cc
 frees-empty (o ∷ ss) (suc n) h = frees-empty ss n h
 
-pub empty-frees : (slots : List (Option Slot)) (n : ℕ) → n < length slots → get_or slots n None ≡ None → get_or (map is_empty slots) n false ≡ true
-empty-frees [] n lt h = absurd (omega arith)
-empty-frees (None ∷ ss) zero lt h = refl
-empty-frees (Some s ∷ ss) zero lt h = cc
-empty-frees (o ∷ ss) (suc n) lt h = empty-frees ss n (omega arith) h
-
 pub frees-full : (slots : List (Option Slot)) (n : ℕ) → n < length slots → get_or (map is_empty slots) n false ≡ false → IsSome (get_or slots n None)
 frees-full [] n lt h = absurd (omega arith)
 frees-full (None ∷ ss) zero lt h = cc
@@ -50,10 +44,6 @@ pub set-same : (xs : List Bool) (n : ℕ) (v : Bool) → get_or xs n v ≡ v →
 set-same [] n v h = refl
 set-same (x ∷ xs) zero v h = ap (λ z. z ∷ xs) (sym h)
 set-same (x ∷ xs) (suc n) v h = ap (λ zs. x ∷ zs) (set-same xs n v h)
-
-pub out-none : (o : Option Slot) → entry_in o ≡ None → o ≡ None
-out-none None h = refl
-out-none (Some s) h = cc
 
 pub in-some : (o : Option Slot) → IsSome (entry_in o) → IsSome o
 in-some None h = h

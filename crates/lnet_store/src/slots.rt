@@ -7,8 +7,8 @@ ghost use Rattle.lnet_model.specs.Networks.{Constant, Input, IsGate, gate_in};
 ghost use Rattle.lnet_model.specs.Dags.{NUMBERS};
 ghost use Rattle.lnet_store.specs.Held.{entry_of, entry_in, IsFitting};
 
-use lnet_free::FreeNumbers;
 use lnet_gates::{Gate, Node};
+use lnet_numbers::NumberSet;
 use std::alloc::{AllocError, Global};
 use std::marker::Model;
 use std::mem;
@@ -43,7 +43,7 @@ pub(crate) struct NodeSlots {
     slots: Vec<Option<Slot>>,
     live: u32,
     numbers: u32,
-    free: FreeNumbers,
+    free: NumberSet,
 }
 
 impl Model for NodeSlots {
@@ -112,9 +112,9 @@ impl NodeSlots {
     {
         let mut slots = Vec::new(alloc);
         slots.push(Some(Slot::Constant))?;
-        let mut free = FreeNumbers::new(alloc);
-        free.grow(1)?;
-        free.take(0);
+        let mut free = NumberSet::new(alloc);
+        free.grow(1, true)?;
+        free.remove(0);
         Ok(NodeSlots {
             slots,
             live: 1,
@@ -195,7 +195,7 @@ impl NodeSlots {
     {
         let more = room - self.slots.len() as u32;
         self.slots.reserve(more as usize)?;
-        self.free.grow(room)?;
+        self.free.grow(room, true)?;
         extend(&mut self.slots, more);
         Ok(())
     }
@@ -226,7 +226,7 @@ impl NodeSlots {
         self.slots[n.0 as usize] = Some(slot);
         self.live += 1;
         self.numbers = self.numbers.max(n.0 + 1);
-        self.free.take(n.0);
+        self.free.remove(n.0);
     }
 
     /// Sets another gate at a gate's number, and gives the old one back. Constant time.
@@ -251,7 +251,7 @@ impl NodeSlots {
         let old = exchange(&mut self.slots, n, None);
         self.live -= 1;
         self.numbers = top_of(&self.slots, self.numbers);
-        self.free.give(n.0);
+        self.free.insert(n.0);
         gate_from(old)
     }
 }

@@ -1,51 +1,58 @@
-//! Which numbers are free, over more than one word of bits.
+//! A set of numbers, over more than one word of bits.
 
-use lnet_free::FreeNumbers;
+use lnet_numbers::NumberSet;
 use std::test::Fail;
 
-/// Takes a number, where it is free. Whether it was.
-fn take(free: &mut FreeNumbers, n: u32) -> bool {
-    let is_free = free.is_free(n);
-    if is_free {
-        free.take(n);
+/// Removes a number, where it is a member. Whether it was.
+fn take(set: &mut NumberSet, n: u32) -> bool {
+    let is_member = set.has(n);
+    if is_member && n < set.room() {
+        set.remove(n);
     }
-    is_free
+    is_member
 }
 
-/// Gives a number back, where there is room for it and it isn't free. Whether it did.
-fn give(free: &mut FreeNumbers, n: u32) -> bool {
-    let can = n < free.room() && !free.is_free(n);
+/// Inserts a number, where there is room for it. Whether there was.
+fn put(set: &mut NumberSet, n: u32) -> bool {
+    let can = n < set.room();
     if can {
-        free.give(n);
+        set.insert(n);
     }
     can
 }
 
-/// Takes the least free number, again and again. The last one that was taken.
-fn take_least(free: &mut FreeNumbers, times: u32) -> Option<u32> {
+/// Removes the least member, again and again. The last one that was removed.
+fn take_least(set: &mut NumberSet, times: u32) -> Option<u32> {
     let mut last = None;
     for _ in 0..times {
-        last = free.least();
+        last = set.least();
         if let Some(n) = last {
-            free.take(n);
+            take(set, n);
         }
     }
     last
 }
 
 #[test]
-fn least_free_numbers(rt: HostRuntime) -> Result<(), Fail> {
-    let mut free = FreeNumbers::new(rt.alloc());
-    assert_eq!(rt; free.least(), None);
-    free.grow(100)?;
-    assert_eq!(rt; (free.room(), free.least()), (100, Some(0)));
-    assert_eq!(rt; take_least(&mut free, 70), Some(69));
-    assert!(rt; give(&mut free, 3));
-    assert!(rt; !give(&mut free, 100));
-    assert!(rt; !take(&mut free, 69));
-    assert!(rt; take(&mut free, 71));
-    assert_eq!(rt; take_least(&mut free, 2), Some(70));
-    assert_eq!(rt; free.least(), Some(72));
-    assert_eq!(rt; take_least(&mut free, 29), None);
+fn least_members(rt: HostRuntime) -> Result<(), Fail> {
+    let mut set = NumberSet::new(rt.alloc());
+    assert_eq!(rt; set.least(), None);
+    set.grow(100, true)?;
+    assert_eq!(rt; (set.room(), set.least()), (100, Some(0)));
+    assert_eq!(rt; take_least(&mut set, 70), Some(69));
+    assert!(rt; put(&mut set, 3));
+    assert!(rt; !put(&mut set, 100));
+    assert!(rt; !take(&mut set, 69));
+    assert!(rt; take(&mut set, 71));
+    assert_eq!(rt; take_least(&mut set, 2), Some(70));
+    assert_eq!(rt; set.least(), Some(72));
+    assert_eq!(rt; take_least(&mut set, 29), None);
+    if set.room() <= 200 {
+        set.grow(200, false)?;
+    }
+    assert_eq!(rt; (set.room(), set.least()), (200, None));
+    assert!(rt; put(&mut set, 170));
+    assert!(rt; put(&mut set, 170));
+    assert_eq!(rt; set.least(), Some(170));
     Ok(())
 }

@@ -1,5 +1,6 @@
 use Rattle.std.proofs.Common.{◌∙◌}
 use Rattle.lnet_hashed.proofs.KeptViews.{told_twice}
+use Rattle.lnet_cascade.proofs.NoteSteps.{follow-twice}
 use Rattle.lnet_cascade.proofs.cascading.cascade.Goals as goal
 
 pub take_dirty-requires-clause-begun : goal.take_dirty-requires-clause-begun
@@ -14,7 +15,7 @@ gates-preserved g c =
     record {
       goes_on = λ N o s can begun. E.goes_on N o s can (I.goes_on N o s can begun);
       gates = E.gates;
-      midway = record { midway = E.midway.midway; room = E.midway.room ∙ I.midway.room; named = E.midway.named ∙ I.midway.named };
+      midway = record { midway = E.midway.midway; room = E.midway.room ∙ I.midway.room; noted = follow-twice I.midway.noted E.midway.noted };
       long = E.long ∙ I.long;
       told = told_twice I.told E.told;
     }

@@ -16,25 +16,29 @@ use Rattle.lnet_cascade.proofs.RedirectedGates.{one-gate, below-set}
 use Rattle.lnet_cascade.proofs.Holders.{absent-of}
 use Rattle.lnet_cascade.proofs.Marking.{inside, marked-clear, left-marks}
 use Rattle.lnet_cascade.proofs.DirtySteps.{settled-native, settled-live, settled-free, settled-goes_on, settled-gates}
+use Rattle.lnet_cascade.proofs.NoteSteps.{can-note, still-noting}
 use Rattle.lnet_cascade.proofs.cascading.settle.Goals as goal
+
+pub set_gate-old-requires-clause-room : goal.set_gate-old-requires-clause-room
+set_gate-old-requires-clause-room g c = can-note c.args.hashed.now.store.network c.args.hashed.now.notes c.args.hashed.now.room c.requires.midway.below c.requires.midway.noting
 
 pub set_gate-old-requires-clause-arity : goal.set_gate-old-requires-clause-arity
 set_gate-old-requires-clause-arity g c =
     let f = c.requires.form in
-    subst (λ (h : GateValue). Takes h.op (length h.fanins)) (sym c.gate_of.ensures) (settled-native g.G.Gates.KIND c.args.hashed.now.store.network c.live_count-live.ensures.stored c.args.hashed.now.keys.dirty.items c.requires.begun c.args.n.0 c.requires.dirty f.0 f.1 c.args.key c.args.phase f.2).takes
+    subst (λ (h : GateValue). Takes h.op (length h.fanins)) (sym c.gate_of-gate.ensures) (settled-native g.G.Gates.KIND c.args.hashed.now.store.network c.live_count-live.ensures.stored c.args.hashed.now.keys.dirty c.requires.begun c.args.n.0 c.requires.dirty f.0 f.1 c.args.key c.args.phase f.2).takes
 
 pub set_gate-old-requires-clause-live : goal.set_gate-old-requires-clause-live
 set_gate-old-requires-clause-live g c =
     let f = c.requires.form in
-    subst (λ (h : GateValue). AreLive c.args.hashed.now.store.network (nodes_read h.fanins)) (sym c.gate_of.ensures) (settled-live g.G.Gates.KIND c.args.hashed.now.store.network c.live_count-live.ensures.stored c.args.hashed.now.keys.dirty.items c.requires.begun c.args.n.0 c.requires.dirty f.0 f.1 c.args.key c.args.phase f.2)
+    subst (λ (h : GateValue). AreLive c.args.hashed.now.store.network (nodes_read h.fanins)) (sym c.gate_of-gate.ensures) (settled-live g.G.Gates.KIND c.args.hashed.now.store.network c.live_count-live.ensures.stored c.args.hashed.now.keys.dirty c.requires.begun c.args.n.0 c.requires.dirty f.0 f.1 c.args.key c.args.phase f.2)
 
 pub set_gate-old-requires-clause-free : goal.set_gate-old-requires-clause-free
 set_gate-old-requires-clause-free g c =
     let f = c.requires.form in
-    subst (λ (h : GateValue). (m : ℕ) → In m (nodes_read h.fanins) → Reaches c.args.hashed.now.store.network m c.args.n.0 → ⊥) (sym c.gate_of.ensures) (settled-free g.G.Gates.KIND c.args.hashed.now.store.network c.live_count-live.ensures.stored c.args.hashed.now.keys.dirty.items c.requires.begun c.args.n.0 c.requires.dirty f.0 f.1 c.args.key c.args.phase f.2)
+    subst (λ (h : GateValue). (m : ℕ) → In m (nodes_read h.fanins) → Reaches c.args.hashed.now.store.network m c.args.n.0 → ⊥) (sym c.gate_of-gate.ensures) (settled-free g.G.Gates.KIND c.args.hashed.now.store.network c.live_count-live.ensures.stored c.args.hashed.now.keys.dirty c.requires.begun c.args.n.0 c.requires.dirty f.0 f.1 c.args.key c.args.phase f.2)
 
 pub enter-requires-clause-marked : goal.enter-requires-clause-marked
-enter-requires-clause-marked g c = inside c.args.hashed.now.keys.dirty.items c.args.n.0 c.requires.dirty
+enter-requires-clause-marked g c = inside c.args.hashed.now.keys.dirty c.args.n.0 c.requires.dirty
 
 pub enter-requires-clause-placed : goal.enter-requires-clause-placed
 enter-requires-clause-placed g c =
@@ -53,51 +57,51 @@ enter-requires-clause-absent g c = absent-of c.args.hashed.now.store.network c.a
 
 pub tell-requires-clause-event : goal.tell-requires-clause-event
 tell-requires-clause-event g c =
-    let here = ap (λ N. entry_at N c.args.n.0) c.set_gate-old.ensures.network ∙ with_entry-here c.args.hashed.now.store.network c.args.n.0 (IsGate c.gate_of.result) in (
-      (c.gate_of.result, here),
-      λ same. c.requires.differs (subst (GateAt c.args.hashed.now.store.network c.args.n.0) (one-gate (sym same ∙ here) ∙ c.gate_of.ensures) c.set_gate-old.ensures.old),
+    let here = ap (λ N. entry_at N c.args.n.0) c.set_gate-old.ensures.network ∙ with_entry-here c.args.hashed.now.store.network c.args.n.0 (IsGate c.gate_of-gate.result) in (
+      (c.gate_of-gate.result, here),
+      λ same. c.requires.differs (subst (GateAt c.args.hashed.now.store.network c.args.n.0) (one-gate (sym same ∙ here) ∙ c.gate_of-gate.ensures) c.set_gate-old.ensures.old),
     )
 
 pub tell-requires-clause-below : goal.tell-requires-clause-below
-tell-requires-clause-below g c = subst (λ N. AreBelow N c.args.hashed.now.room) (sym c.set_gate-old.ensures.network) (below-set c.args.hashed.now.store.network c.args.n.0 c.args.hashed.now.room c.gate_of.result c.set_gate-old.result c.set_gate-old.ensures.old c.requires.midway.below)
+tell-requires-clause-below g c = subst (λ N. AreBelow N c.args.hashed.now.room) (sym c.set_gate-old.ensures.network) (below-set c.args.hashed.now.store.network c.args.n.0 c.args.hashed.now.room c.gate_of-gate.result c.set_gate-old.result c.set_gate-old.ensures.old c.requires.midway.below)
 
 pub returns-clause-goes_on : goal.returns-clause-goes_on
 returns-clause-goes_on g c =
     let f = c.requires.form in
-    let is = c.set_gate-old.ensures.network ∙ ap (λ (h : GateValue). with_entry c.args.hashed.now.store.network c.args.n.0 (IsGate h)) c.gate_of.ensures in
-    subst (GoesOn g.G.Gates.KIND c.args.hashed.now.store.network c.args.hashed.now.keys.dirty.items c.set_gate-old.new.self.network) (sym c.enter.ensures.dirty)
-    (settled-goes_on g.G.Gates.KIND c.args.hashed.now.store.network c.live_count-live.ensures.stored c.args.hashed.now.keys.dirty.items c.requires.begun c.args.n.0 c.requires.dirty f.0 f.1 c.args.key c.args.phase f.2 c.set_gate-old.new.self.network is c.requires.unused)
+    let is = c.set_gate-old.ensures.network ∙ ap (λ (h : GateValue). with_entry c.args.hashed.now.store.network c.args.n.0 (IsGate h)) c.gate_of-gate.ensures in
+    subst (GoesOn g.G.Gates.KIND c.args.hashed.now.store.network c.args.hashed.now.keys.dirty c.set_gate-old.new.store.network) (sym c.enter.ensures.dirty)
+    (settled-goes_on g.G.Gates.KIND c.args.hashed.now.store.network c.live_count-live.ensures.stored c.args.hashed.now.keys.dirty c.requires.begun c.args.n.0 c.requires.dirty f.0 f.1 c.args.key c.args.phase f.2 c.set_gate-old.new.store.network is c.requires.unused)
 
 pub returns-clause-gates : goal.returns-clause-gates
 returns-clause-gates g c =
     let f = c.requires.form in
-    let is = c.set_gate-old.ensures.network ∙ ap (λ (h : GateValue). with_entry c.args.hashed.now.store.network c.args.n.0 (IsGate h)) c.gate_of.ensures in
-    subst (OnlyGates c.set_gate-old.new.self.network) (sym c.enter.ensures.dirty) (settled-gates g.G.Gates.KIND c.args.hashed.now.store.network c.live_count-live.ensures.stored c.args.hashed.now.keys.dirty.items c.requires.begun c.args.n.0 c.requires.dirty f.0 f.1 c.args.key c.args.phase f.2 c.set_gate-old.new.self.network is c.requires.gates)
+    let is = c.set_gate-old.ensures.network ∙ ap (λ (h : GateValue). with_entry c.args.hashed.now.store.network c.args.n.0 (IsGate h)) c.gate_of-gate.ensures in
+    subst (OnlyGates c.set_gate-old.new.store.network) (sym c.enter.ensures.dirty) (settled-gates g.G.Gates.KIND c.args.hashed.now.store.network c.live_count-live.ensures.stored c.args.hashed.now.keys.dirty c.requires.begun c.args.n.0 c.requires.dirty f.0 f.1 c.args.key c.args.phase f.2 c.set_gate-old.new.store.network is c.requires.gates)
 
 pub returns-clause-less : goal.returns-clause-less
 returns-clause-less g c =
-    subst (λ bs. left c.set_gate-old.new.self.network bs < left c.args.hashed.now.store.network c.args.hashed.now.keys.dirty.items) (sym c.enter.ensures.dirty)
-    (left-marks c.args.hashed.now.store.network c.set_gate-old.new.self.network c.args.hashed.now.keys.dirty.items (slice_set c.args.hashed.now.keys.dirty.items c.args.n.0 false) c.set_gate-old.ensures.count (length-set c.args.hashed.now.keys.dirty.items c.args.n.0 false) (marked-clear c.args.hashed.now.keys.dirty.items c.args.n.0 c.requires.dirty))
+    subst (λ bs. left c.set_gate-old.new.store.network bs < left c.args.hashed.now.store.network c.args.hashed.now.keys.dirty) (sym c.enter.ensures.dirty)
+    (left-marks c.args.hashed.now.store.network c.set_gate-old.new.store.network c.args.hashed.now.keys.dirty (slice_set c.args.hashed.now.keys.dirty c.args.n.0 false) c.set_gate-old.ensures.kept.count (length-set c.args.hashed.now.keys.dirty c.args.n.0 false) (marked-clear c.args.hashed.now.keys.dirty c.args.n.0 c.requires.dirty))
 
 pub returns-clause-long : goal.returns-clause-long
-returns-clause-long g c = ap length c.enter.ensures.dirty ∙ length-set c.args.hashed.now.keys.dirty.items c.args.n.0 false
+returns-clause-long g c = ap length c.enter.ensures.dirty ∙ length-set c.args.hashed.now.keys.dirty c.args.n.0 false
 
 pub returns-clause-midway : goal.returns-clause-midway
 returns-clause-midway g c =
     let stored = c.requires.midway.stored in
-    let count = c.set_gate-old.ensures.count in
-    let spare = c.set_gate-old.ensures.spare in
+    let count = c.set_gate-old.ensures.kept.count in
+    let spare = c.set_gate-old.ensures.kept.spare in
     record {
       midway = record {
-        below = subst (λ N. AreBelow N c.args.hashed.now.room) (sym c.set_gate-old.ensures.network) (below-set c.args.hashed.now.store.network c.args.n.0 c.args.hashed.now.room c.gate_of.result c.set_gate-old.result c.set_gate-old.ensures.old c.requires.midway.below);
+        below = subst (λ N. AreBelow N c.args.hashed.now.room) (sym c.set_gate-old.ensures.network) (below-set c.args.hashed.now.store.network c.args.n.0 c.args.hashed.now.room c.gate_of-gate.result c.set_gate-old.result c.set_gate-old.ensures.old c.requires.midway.below);
         stored = omega arith;
         limit = c.requires.midway.limit;
-        named = c.requires.midway.named;
+        noting = still-noting c.args.hashed.now.room c.set_gate-old.ensures.noted c.requires.midway.noting;
         indexed =
-            c.enter.ensures.indexed c.args.hashed.now.store.network c.set_gate-old.new.self.network c.args.hashed.now.room c.requires.midway.indexed
-            (same-gates c.args.hashed.now.store.network c.set_gate-old.new.self.network c.args.n.0 (λ m ne. ap (λ N. entry_at N m) c.set_gate-old.ensures.network ∙ with_entry-apart c.args.hashed.now.store.network c.args.n.0 (IsGate c.gate_of.result) m ne))
-            (ap (λ N. entry_at N c.args.n.0) c.set_gate-old.ensures.network ∙ with_entry-here c.args.hashed.now.store.network c.args.n.0 (IsGate c.gate_of.result) ∙ ap (λ (h : GateValue). Some (IsGate h)) c.gate_of.ensures);
+            c.enter.ensures.indexed c.args.hashed.now.store.network c.set_gate-old.new.store.network c.args.hashed.now.room c.requires.midway.indexed
+            (same-gates c.args.hashed.now.store.network c.set_gate-old.new.store.network c.args.n.0 (λ m ne. ap (λ N. entry_at N m) c.set_gate-old.ensures.network ∙ with_entry-apart c.args.hashed.now.store.network c.args.n.0 (IsGate c.gate_of-gate.result) m ne))
+            (ap (λ N. entry_at N c.args.n.0) c.set_gate-old.ensures.network ∙ with_entry-here c.args.hashed.now.store.network c.args.n.0 (IsGate c.gate_of-gate.result) ∙ ap (λ (h : GateValue). Some (IsGate h)) c.gate_of-gate.ensures);
       };
       room = refl;
-      named = refl;
+      noted = c.set_gate-old.ensures.noted;
     }

@@ -11,7 +11,11 @@ use Rattle.lnet_substitution.proofs.OneReplaced.{fanin-gate, gate-live}
 use Rattle.lnet_substitution.proofs.Merging.{not-both}
 use Rattle.lnet_cascade.specs.Redirections.{RedirectedAt}
 use Rattle.lnet_cascade.proofs.RedirectedGates.{one-gate, below-set, redirected-differs, redirected-live, redirected-free, redirected-at, redirected-same}
+use Rattle.lnet_cascade.proofs.NoteSteps.{can-note, still-noting}
 use Rattle.lnet_cascade.proofs.redirecting.redirect_at.Goals as goal
+
+pub set_gate-old-requires-clause-room : goal.set_gate-old-requires-clause-room
+set_gate-old-requires-clause-room g c = can-note c.args.hashed.now.store.network c.args.hashed.now.notes c.args.hashed.now.room c.requires.midway.below c.requires.midway.noting
 
 pub set_gate-old-requires-clause-live : goal.set_gate-old-requires-clause-live
 set_gate-old-requires-clause-live g c =
@@ -53,25 +57,25 @@ returns-then-concerns-clause-redirected g c =
     let at = gate-at (entry_at N c.args.n) c.in-Some.gate.now (sym c.in-Some.ensures) in
     let is = c.set_gate-old.ensures.network ∙ ap (λ (h : GateValue). with_entry N c.args.n (IsGate h)) c.of_gate-new.ensures in
     subst (RedirectedAt N c.args.redirection.from.0 c.args.redirection.to c.args.n) (sym is)
-    (redirected-at N c.args.n c.args.redirection.from.0 c.args.redirection.to c.in-Some.gate.now at (c.concerns.ensures.0 c.if-concerns.true) c.live_count-live.ensures.stored c.requires.live c.requires.free (ap live_count (sym is) ∙ c.set_gate-old.ensures.count))
+    (redirected-at N c.args.n c.args.redirection.from.0 c.args.redirection.to c.in-Some.gate.now at (c.concerns.ensures.0 c.if-concerns.true) c.live_count-live.ensures.stored c.requires.live c.requires.free (ap live_count (sym is) ∙ c.set_gate-old.ensures.kept.count))
 
 pub returns-then-concerns-clause-midway : goal.returns-then-concerns-clause-midway
 returns-then-concerns-clause-midway g c =
     let stored = c.requires.midway.stored in
-    let count = c.set_gate-old.ensures.count in
-    let spare = c.set_gate-old.ensures.spare in
+    let count = c.set_gate-old.ensures.kept.count in
+    let spare = c.set_gate-old.ensures.kept.spare in
     record {
       midway = record {
         below = subst (λ N. AreBelow N c.args.hashed.now.room) (sym c.set_gate-old.ensures.network) (below-set c.args.hashed.now.store.network c.args.n c.args.hashed.now.room c.of_gate-new.result c.set_gate-old.result c.set_gate-old.ensures.old c.requires.midway.below);
         stored = omega arith;
         limit = c.requires.midway.limit;
-        named = c.requires.midway.named;
+        noting = still-noting c.args.hashed.now.room c.set_gate-old.ensures.noted c.requires.midway.noting;
         indexed =
-            c.soil.ensures.indexed c.args.hashed.now.store.network c.set_gate-old.new.self.network c.args.hashed.now.room c.requires.midway.indexed
-            (same-gates c.args.hashed.now.store.network c.set_gate-old.new.self.network c.args.n (λ m ne. ap (λ N. entry_at N m) c.set_gate-old.ensures.network ∙ with_entry-apart c.args.hashed.now.store.network c.args.n (IsGate c.of_gate-new.result) m ne));
+            c.soil.ensures.indexed c.args.hashed.now.store.network c.set_gate-old.new.store.network c.args.hashed.now.room c.requires.midway.indexed
+            (same-gates c.args.hashed.now.store.network c.set_gate-old.new.store.network c.args.n (λ m ne. ap (λ N. entry_at N m) c.set_gate-old.ensures.network ∙ with_entry-apart c.args.hashed.now.store.network c.args.n (IsGate c.of_gate-new.result) m ne));
       };
       room = refl;
-      named = refl;
+      noted = c.set_gate-old.ensures.noted;
     }
 
 pub returns-else-concerns-clause-redirected : goal.returns-else-concerns-clause-redirected

@@ -9,7 +9,7 @@ use Rattle.lnet_cascade.proofs.redirecting.redirect_gates.Given as goal
 abbrev pub invariant-parents : goal.invariant-parents
 invariant-parents g l = record {
   redirected : RedirectedSome l.fn.hashed.store.network l.redirection.from.0 l.redirection.to l.hashed.store.network;
-  dirty : MarkedMore (IsRedirected l.fn.hashed.store.network l.redirection.from.0 l.hashed.store.network) l.fn.hashed.keys.dirty.items l.hashed.keys.dirty.items;
+  dirty : MarkedMore (IsRedirected l.fn.hashed.store.network l.redirection.from.0 l.hashed.store.network) l.fn.hashed.keys.dirty l.hashed.keys.dirty;
   midway : StaysMidway l.fn.hashed l.hashed;
   told : AreToldIn (λ b. goal.View-dyn g (b.vtable, b.value)) l.hashed.store.network l.hashed.room l.fn.watch l.watch;
 }

@@ -38,7 +38,8 @@ returns-in-Ok-clause-room g c =
       below = input-below c.make_room.new.hashed.store.network c.add_input.new.self.network c.in-Ok.n.0 c.make_room.new.hashed.room c.in-Ok.ensures.network c.in-Ok.ensures.number c.in_ok-make_room.ensures.one_more c.make_room.ensures.room.below;
       stored = omega arith;
       limit = c.make_room.ensures.room.limit;
-      named = c.make_room.ensures.room.named;
+      noting = c.make_room.ensures.room.noting;
+      blank = c.make_room.ensures.room.blank;
       indexed = indexed-same c.make_room.new.hashed.store.network c.add_input.new.self.network c.make_room.new.hashed.keys c.make_room.new.hashed.room (input-gates c.make_room.new.hashed.store.network c.add_input.new.self.network c.in-Ok.n.0 c.in-Ok.ensures.network c.in-Ok.ensures.number.free) c.make_room.ensures.room.indexed;
       clean = c.make_room.ensures.room.clean;
     }

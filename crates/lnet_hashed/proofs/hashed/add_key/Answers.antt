@@ -34,7 +34,7 @@ enter-requires-clause-placed g c =
 
 pub enter-requires-clause-free : goal.enter-requires-clause-free
 enter-requires-clause-free g c =
-    c.make_room.ensures.room.indexed.stands c.in-Ok.n.0 ∙ ap (λ o. stands_for (gate_in o) (slice_index_or c.make_room.new.hashed.keys.dirty.items c.in-Ok.n.0 false)) c.in-Ok.ensures.number.free
+    c.make_room.ensures.room.indexed.stands c.in-Ok.n.0 ∙ ap (λ o. stands_for (gate_in o) (slice_index_or c.make_room.new.hashed.keys.dirty c.in-Ok.n.0 false)) c.in-Ok.ensures.number.free
 
 pub enter-requires-clause-absent : goal.enter-requires-clause-absent
 enter-requires-clause-absent g c =
@@ -53,11 +53,12 @@ returns-in-Ok-clause-room g c =
       below = added-below c.make_room.new.hashed.store.network c.add.new.self.network c.in-Ok.n.0 c.make_room.new.hashed.room _ c.in-Ok.ensures.network c.in-Ok.ensures.number c.in_ok-make_room.ensures.one_more c.make_room.ensures.room.below;
       stored = omega arith;
       limit = c.make_room.ensures.room.limit;
-      named = c.make_room.ensures.room.named;
+      noting = c.make_room.ensures.room.noting;
+      blank = c.make_room.ensures.room.blank;
       indexed = c.enter.ensures.indexed c.make_room.new.hashed.store.network c.add.new.self.network c.make_room.new.hashed.room c.make_room.ensures.room.indexed
           (same-gates c.make_room.new.hashed.store.network c.add.new.self.network c.in-Ok.n.0 (λ m ne. ap (λ N. entry_at N m) c.in-Ok.ensures.network ∙ with_entry-apart c.make_room.new.hashed.store.network c.in-Ok.n.0 _ m ne))
           (ap (λ N. entry_at N c.in-Ok.n.0) c.in-Ok.ensures.network ∙ with_entry-here c.make_room.new.hashed.store.network c.in-Ok.n.0 _ ∙ ap (λ (h : GateValue). Some (IsGate h)) c.gate_of-gate.ensures);
-      clean = λ m. ap (λ bs. slice_index_or bs m false) c.enter.ensures.dirty ∙ clear-set c.make_room.new.hashed.keys.dirty.items c.in-Ok.n.0 c.make_room.ensures.room.clean m;
+      clean = λ m. ap (λ bs. slice_index_or bs m false) c.enter.ensures.dirty ∙ clear-set c.make_room.new.hashed.keys.dirty c.in-Ok.n.0 c.make_room.ensures.room.clean m;
     }
 
 pub returns-in-Ok-clause-live : goal.returns-in-Ok-clause-live

@@ -28,9 +28,10 @@ returns-clause-room g c =
       below = subst (λ N. AreBelow N c.args.hashed.now.room) (sym c.remove-gate.ensures.network) (λ m live. c.requires.room.below m (left-live c.args.hashed.now.store.network c.args.n.0 m live));
       stored = omega arith;
       limit = c.requires.room.limit;
-      named = c.requires.room.named;
+      noting = c.requires.room.noting;
+      blank = c.requires.room.blank;
       indexed = c.forget.ensures.indexed c.args.hashed.now.store.network c.remove-gate.new.self.network c.args.hashed.now.room c.requires.room.indexed
           (same-gates c.args.hashed.now.store.network c.remove-gate.new.self.network c.args.n.0 (λ m ne. ap (λ N. entry_at N m) c.remove-gate.ensures.network ∙ without-apart c.args.hashed.now.store.network c.args.n.0 m ne))
           (ap (λ N. gate_at N c.args.n.0) c.remove-gate.ensures.network ∙ ap gate_in (without-here c.args.hashed.now.store.network c.args.n.0));
-      clean = λ m. ap (λ bs. slice_index_or bs m false) c.forget.ensures.dirty ∙ clear-set c.args.hashed.now.keys.dirty.items c.args.n.0 c.requires.room.clean m;
+      clean = λ m. ap (λ bs. slice_index_or bs m false) c.forget.ensures.dirty ∙ clear-set c.args.hashed.now.keys.dirty c.args.n.0 c.requires.room.clean m;
     }

@@ -11,7 +11,8 @@ returns-clause-room c =
       below = subst (λ N. AreBelow N 1) (sym c.in_ok-store.ensures.network) first-low;
       stored = omega arith;
       limit = omega arith;
-      named = c.in_ok-lengthen.ensures.long;
+      noting = c.in_ok-reserve-2.ensures.long;
+      blank = c.in_ok-reserve-2.ensures.blank c.new-notes.ensures;
       indexed = c.in_ok-reserve.ensures.long c.in_ok-store.store.network 0 (c.in_ok-keys.ensures.indexed c.in_ok-store.store.network (λ n. ap (λ N. gate_at N n) c.in_ok-store.ensures.network ∙ first-gates n));
       clean = λ n. c.in_ok-reserve.ensures.dirty n ∙ c.in_ok-keys.ensures.clean n;
     }

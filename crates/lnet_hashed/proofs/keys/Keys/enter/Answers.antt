@@ -1,4 +1,4 @@
-use Rattle.std.proofs.Common.{Some, false, refl, sym, ap, ◌∙◌}
+use Rattle.std.proofs.Common.{Some, false, sym, ap, ◌∙◌}
 use Rattle.lnet_model.specs.Networks.{gate_in}
 use Rattle.lnet_strash.specs.Standing.{Standing, at}
 use Rattle.lnet_strash.proofs.Entries.{entry_free, no-entry}
@@ -15,7 +15,7 @@ insert-requires-clause-absent c = no-entry c.args.self.now.table c.args.key c.re
 
 pub returns-clause-indexed : goal.returns-clause-indexed
 returns-clause-indexed c N M room I same here =
-    indexed-after N M c.args.self.now _ c.args.n.0 room false c.requires.marked refl
+    indexed-after N M c.args.self.now _ c.args.n.0 room false c.requires.marked c.remove.ensures
     (ap (λ (t : Standing). at t c.args.n.0) c.insert.ensures.standing ∙ at-same c.args.self.now.table c.args.n.0 (Some (c.args.key, c.args.phase)) c.requires.placed ∙ sym (ap (λ o. stands_for (gate_in o) false) here))
     (λ m ne. ap (λ (t : Standing). at t m) c.insert.ensures.standing ∙ at-other c.args.self.now.table c.args.n.0 (Some (c.args.key, c.args.phase)) m ne)
     c.insert.ensures.room c.insert.ensures.unique I same

@@ -19,7 +19,7 @@ pub returns-clause-free : goal.returns-clause-free
 returns-clause-free c =
     let e = ap (λ (h : Numbered). h.nodes) c.self.view_is in
     sym (ap (λ m. get m c.in-Some.n) e) ∙ get-held c.self.inside.slots.items c.in-Some.n
-    ∙ ap entry_in (frees-empty c.self.inside.slots.items c.in-Some.n (ap (λ fs. get_or fs c.in-Some.n false) (sym c.self.invariant.frees) ∙ c.in-Some.ensures.is_free))
+    ∙ ap entry_in (frees-empty c.self.inside.slots.items c.in-Some.n (ap (λ fs. get_or fs c.in-Some.n false) (sym c.self.invariant.frees) ∙ c.in-Some.ensures.member))
 
 pub returns-clause-least : goal.returns-clause-least
 returns-clause-least c m lt =

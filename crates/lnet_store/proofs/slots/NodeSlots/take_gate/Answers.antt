@@ -5,7 +5,7 @@ use Rattle.lnet_model.specs.Networks.{gate_in}
 use Rattle.lnet_store.specs.Held.{Numbered, held, entry_in, IsCounted}
 use Rattle.lnet_store.specs.declared.slots.Slot.{Slot}
 use Rattle.lnet_store.proofs.SlotLemmas.{get-held, held-clear}
-use Rattle.lnet_store.proofs.CountedSlots.{fitting, there-inside, there-taken, counted-cleared, some-live, gate-live, numbers-fit}
+use Rattle.lnet_store.proofs.CountedSlots.{fitting, there-inside, counted-cleared, some-live, gate-live, numbers-fit}
 use Rattle.lnet_store.proofs.FreeSlots.{frees-length}
 use Rattle.lnet_store.proofs.slots.NodeSlots.take_gate.Goals as goal
 
@@ -36,8 +36,8 @@ pub invariant_of-self : goal.invariant_of-self
 invariant_of-self c =
     let e = ap (λ (h : Numbered). h.nodes) c.self.view_is in
     let slots : c.deref.result.now ≡ set c.self.inside.slots.items c.args.n.0 None = c.deref.ensures.value ∙ c.exchange-old.ensures.new in
-    subst (λ (xs : List (Option Slot)). IsCounted xs (c.self.inside.live - 1) c.top_of-self-inside.result c.give.new.self) (sym c.exchange-old.ensures.new)
-    (subst (λ z. IsCounted (set c.self.inside.slots.items c.args.n.0 None) (c.self.inside.live - 1) c.top_of-self-inside.result z) (sym c.give.ensures)
+    subst (λ (xs : List (Option Slot)). IsCounted xs (c.self.inside.live - 1) c.top_of-self-inside.result c.insert.new.self) (sym c.exchange-old.ensures.new)
+    (subst (λ z. IsCounted (set c.self.inside.slots.items c.args.n.0 None) (c.self.inside.live - 1) c.top_of-self-inside.result z) (sym c.insert.ensures)
     (counted-cleared c.self.inside.slots.items c.self.inside.live c.self.inside.numbers c.self.inside.free c.self.invariant c.args.n.0
     (subst (λ m. IsSome (get m c.args.n.0)) (sym e) (gate-live c.args.self.now.nodes c.args.n.0 c.requires)) c.top_of-self-inside.result
     (λ m ge lt. ap (λ (xs : List (Option Slot)). get_or xs m None) (sym slots) ∙ c.top_of-self-inside.ensures.past m ge lt)
@@ -59,9 +59,9 @@ pub returns-clause-fitting : goal.returns-clause-fitting
 returns-clause-fitting c =
     let e = ap (λ (h : Numbered). h.nodes) c.self.view_is in
     let slots : c.deref.result.now ≡ set c.self.inside.slots.items c.args.n.0 None = c.deref.ensures.value ∙ c.exchange-old.ensures.new in
-    fitting c.exchange-old.new.slots.items (c.self.inside.live - 1) c.top_of-self-inside.result c.give.new.self
-    (subst (λ (xs : List (Option Slot)). IsCounted xs (c.self.inside.live - 1) c.top_of-self-inside.result c.give.new.self) (sym c.exchange-old.ensures.new)
-    (subst (λ z. IsCounted (set c.self.inside.slots.items c.args.n.0 None) (c.self.inside.live - 1) c.top_of-self-inside.result z) (sym c.give.ensures)
+    fitting c.exchange-old.new.slots.items (c.self.inside.live - 1) c.top_of-self-inside.result c.insert.new.self
+    (subst (λ (xs : List (Option Slot)). IsCounted xs (c.self.inside.live - 1) c.top_of-self-inside.result c.insert.new.self) (sym c.exchange-old.ensures.new)
+    (subst (λ z. IsCounted (set c.self.inside.slots.items c.args.n.0 None) (c.self.inside.live - 1) c.top_of-self-inside.result z) (sym c.insert.ensures)
     (counted-cleared c.self.inside.slots.items c.self.inside.live c.self.inside.numbers c.self.inside.free c.self.invariant c.args.n.0
     (subst (λ m. IsSome (get m c.args.n.0)) (sym e) (gate-live c.args.self.now.nodes c.args.n.0 c.requires)) c.top_of-self-inside.result
     (λ m ge lt. ap (λ (xs : List (Option Slot)). get_or xs m None) (sym slots) ∙ c.top_of-self-inside.ensures.past m ge lt)
@@ -70,16 +70,10 @@ returns-clause-fitting c =
 pub returns-clause-room : goal.returns-clause-room
 returns-clause-room c = ap (λ (xs : List (Option Slot)). length xs) c.exchange-old.ensures.new ∙ length-set c.self.inside.slots.items c.args.n.0 None ∙ ap (λ (h : Numbered). h.room) c.self.view_is
 
-pub give-requires-clause-within : goal.give-requires-clause-within
-give-requires-clause-within c =
+pub insert-requires : goal.insert-requires
+insert-requires c =
     let e = ap (λ (h : Numbered). h.nodes) c.self.view_is in
     let inside = there-inside c.self.inside.slots.items c.self.inside.live c.self.inside.numbers c.self.inside.free c.self.invariant c.args.n.0
     (subst (λ m. IsSome (get m c.args.n.0)) (sym e) (gate-live c.args.self.now.nodes c.args.n.0 c.requires)) in
     let len = ap (λ (fs : List Bool). length fs) c.self.invariant.frees ∙ frees-length c.self.inside.slots.items in
     omega arith
-
-pub give-requires-clause-taken : goal.give-requires-clause-taken
-give-requires-clause-taken c =
-    let e = ap (λ (h : Numbered). h.nodes) c.self.view_is in
-    there-taken c.self.inside.slots.items c.self.inside.live c.self.inside.numbers c.self.inside.free c.self.invariant c.args.n.0
-    (subst (λ m. IsSome (get m c.args.n.0)) (sym e) (gate-live c.args.self.now.nodes c.args.n.0 c.requires))

@@ -16,7 +16,7 @@ use std::test::Fail;
 
 /// A change of a store.
 #[derive(Clone, Copy)]
-enum Change {
+pub(crate) enum Change {
     Add,
     Set(u32),
     Remove(u32),
@@ -40,7 +40,13 @@ fn is_another(store: &Store, n: Node, a: Signal, b: Signal) -> bool
 }
 
 /// Makes the change, with a gate that is the And of two nodes, and tells its event.
-fn made(rt: &impl Abort, store: &mut Store, change: Change, a: u32, b: u32) -> Result<Event, Fail>
+pub(crate) fn made(
+    rt: &impl Abort,
+    store: &mut Store,
+    change: Change,
+    a: u32,
+    b: u32,
+) -> Result<Event, Fail>
     ensures was { IfOk result (λ e. was e store.new.network ≡ store.old.network) }
     ensures event { IfOk result (λ e. IsEvent e store.new.network) }
     ensures same { OnErr result (store.new.network ≡ store.old.network) }

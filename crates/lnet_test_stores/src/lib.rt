@@ -4,6 +4,8 @@
 #[cfg(test)]
 mod cuts;
 #[cfg(test)]
+mod fanouts;
+#[cfg(test)]
 mod follows;
 #[cfg(test)]
 mod forms;

@@ -1,0 +1,7 @@
+mod SlotLemmas
+mod Fans
+mod InStep
+mod NextPlaces
+mod Events
+mod Filling
+mod Roomier

@@ -57,32 +57,32 @@ def circuit(gates, inputs=INPUTS):
     return "\n".join(lines) + "\n"
 
 
-def seconds(command, folder):
-    """The processor time of one run of the command, which must end with status 0."""
+def seconds(command, folder, statuses=(0,)):
+    """The processor time of one run of the command, which must end with one of the statuses."""
     child = subprocess.Popen(command, cwd=folder, stdin=subprocess.DEVNULL, stdout=subprocess.DEVNULL)
     _, status, usage = os.wait4(child.pid, 0)
     child.returncode = os.waitstatus_to_exitcode(status)
-    if child.returncode:
+    if child.returncode not in statuses:
         sys.exit(f"status {child.returncode}: {command}")
     return usage.ru_utime + usage.ru_stime
 
 
-def instructions(command, folder):
-    """How many instructions one run of the command takes, which must end with status 0."""
+def instructions(command, folder, statuses=(0,)):
+    """How many instructions one run of the command takes, which must end with one of the statuses."""
     counted = [VALGRIND, "--tool=callgrind", "--callgrind-out-file=/dev/null", *command]
     run = subprocess.run(counted, cwd=folder, stdin=subprocess.DEVNULL, stdout=subprocess.DEVNULL, stderr=subprocess.PIPE, text=True)
     found = re.search(r"Collected : (\d+)", run.stderr)
-    if run.returncode or not found:
+    if run.returncode not in statuses or not found:
         sys.exit(f"status {run.returncode}: {counted}")
     return int(found.group(1))
 
 
-def medians(commands, folder, runs):
+def medians(commands, folder, runs, statuses=(0,)):
     """The median time of each command, in milliseconds."""
     times = {name: [] for name in commands}
     for _ in range(runs):
         for name, command in commands.items():
-            times[name].append(seconds(command, folder))
+            times[name].append(seconds(command, folder, statuses))
     return {name: 1000 * statistics.median(taken) for name, taken in times.items()}
 
 

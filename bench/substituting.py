@@ -4,10 +4,11 @@
     bench/substituting.py [RUNS]     RUNS of each command, 5 where it is left out
 
 A chain of N gates stands twice in a file, over two first gates: one `merge` of these merges the two chains gate by gate, all in one
-substitution, with and without a live depth view. Beside it the file is read alone, and read and written. Then in a generated network
-of 100,000 And gates over 6 inputs a thousand gates are merged, each with a signal of its function. The comparison of the two, which
-looks at all that they stand on, is timed by the same merges with the signals complemented: these are refused. Times are the processor time of
-the program, the median of the runs.
+substitution, with and without a live depth view. Beside it the file is read alone, and read and written. Then in a generated
+network of 100,000 And gates over 6 inputs, of which some sixty thousand are left under hashing, a thousand random gates are merged, each
+with a signal of its function, and the same with the signals complemented: these are compared, which looks at all that the two stand
+on, and not made. The answer of one that is made counts the gates. Times are the processor time of the program, the median of the
+runs. Where valgrind is installed, the instructions that the merges of the chains take are counted.
 """
 import os
 import random
@@ -19,8 +20,7 @@ import tempfile
 import run
 
 CHAINS = [500, 5_000, 50_000]
-MERGES = 1_000
-FEW_GATES, FEW_INPUTS = 100_000, 6
+MERGES, FEW_GATES, FEW_INPUTS = 1_000, 100_000, 6
 
 
 def chain(gates):
@@ -37,8 +37,22 @@ def chain(gates):
 
 
 def answers(command, folder):
-    """What the program prints."""
-    return subprocess.run(command, cwd=folder, stdin=subprocess.DEVNULL, stdout=subprocess.PIPE, text=True, check=True).stdout
+    """What the program prints; a command that is not met is no failure."""
+    done = subprocess.run(command, cwd=folder, stdin=subprocess.DEVNULL, stdout=subprocess.PIPE, text=True, check=False)
+    if done.returncode not in (0, 1):
+        sys.exit(f"status {done.returncode}")
+    return done.stdout
+
+
+def counts(commands, folder):
+    """The instructions of the merges alone."""
+    counted = {key: run.instructions(command, folder) for key, command in commands.items() if key != "start" and "print" not in key[0] and "written" not in key[0]}
+    own = [counted["read and merged", it] - counted["read", it] for it in CHAINS]
+    viewed = [counted["read and merged, with a depth view", it] - counted["read, with a depth view", it] for it in CHAINS]
+    return [
+        "instructions of the merge alone, a gate: " + ", ".join(f"{it / gates:.0f}" for it, gates in zip(own, CHAINS)),
+        "with a depth view: " + ", ".join(f"{it / gates:.0f}" for it, gates in zip(viewed, CHAINS)),
+    ]
 
 
 def chains(folder, runs):
@@ -65,11 +79,9 @@ def chains(folder, runs):
     lines = [f"chains, milliseconds without the start ({start:.2f})", " | ".join(["what", *(f"{it:,} gates merged" for it in CHAINS)])]
     for what in dict.fromkeys(key[0] for key in taken):
         lines.append(" | ".join([what, *(f"{taken[what, gates] - start:.2f}" for gates in CHAINS)]))
-    own = [(taken["read and merged", it] - taken["read", it]) for it in CHAINS]
-    viewed = [taken["read and merged, with a depth view", it] - taken["read, with a depth view", it] for it in CHAINS]
     both = (taken["read, merged and printed", CHAINS[-1]] - start) / (taken["read and written", CHAINS[-1]] - start)
-    lines.append("the merge alone, ratios between the sizes: " + ", ".join(f"{b / a:.1f}" for a, b in zip(own, own[1:])))
-    lines.append("the merge with a depth view over that without: " + ", ".join(f"{b / a:.2f}" for a, b in zip(own, viewed)))
+    if run.VALGRIND:
+        lines += counts(commands, folder)
     lines.append(f"read, merged and printed over read and written, at {CHAINS[-1]:,}: {both:.2f}")
     return lines
 
@@ -94,44 +106,37 @@ def values_of(gates):
 
 
 def pairs(gates):
-    """Random gates, each with a signal of a lower node that has its function, as words of `merge`."""
+    """Random gates, each with a node before it that has its function: node, node, whether complemented."""
     values, like = values_of(gates), {}
     for n, value in values.items():
         like.setdefault(min(value, value ^ (2**64 - 1)), []).append(n)
     draw, out = random.Random(1), []
     for n in draw.sample(sorted(gates), len(gates)):
-        lower = [m for m in like[min(values[n], values[n] ^ (2**64 - 1))][:64] if m < n]
-        if lower:
-            m = draw.choice(lower)
+        before = [m for m in like[min(values[n], values[n] ^ (2**64 - 1))][:64] if m < n]
+        if before:
+            m = draw.choice(before)
             out.append((n, m, values[n] != values[m]))
-        if len(out) == MERGES:
-            return out
-    sys.exit("too few pairs of one function")
+    return out[:MERGES]
 
 
 def few(folder, runs):
-    """A thousand random merges, the same pairs refused since the signal is complemented, and none, on a generated network."""
+    """Random merges, and the same with the signals complemented, which are compared and not met."""
     with open(os.path.join(folder, "net.aag"), "w", encoding="ascii") as file:
         file.write(run.circuit(FEW_GATES, FEW_INPUTS))
     read = "read aiger net.aag aig"
     gates = network_of(answers([run.PROGRAM, f"{read}; print"], folder).splitlines()[1:])
     chosen = pairs(gates)
     merges = "; ".join(f"merge {n} {'!' * turned}{m}" for n, m, turned in chosen)
-    refused = "; ".join(f"merge {n} {'!' * (not turned)}{m}" for n, m, turned in chosen)
+    others = "; ".join(f"merge {n} {'!' * (not turned)}{m}" for n, m, turned in chosen)
     commands = {}
     for what, before in (("", read), (", with a depth view", f"{read}; view depth")):
         commands[f"read{what}"] = [run.PROGRAM, before]
-        commands[f"compared{what}"] = [run.PROGRAM, f"{before}; {refused}"]
+        commands[f"compared{what}"] = [run.PROGRAM, f"{before}; {others}"]
         commands[f"merged{what}"] = [run.PROGRAM, f"{before}; {merges}"]
-    told = answers(commands["merged"], folder)
-    left = [len(gates)] + [int(it) for it in re.findall(r"merged \d+ gates (\d+)", told)]
-    taken = run.medians(commands, folder, runs)
-    lines = [f"{len(left) - 1} random merges on {len(gates):,} gates, after which {left[-1]:,} are left; milliseconds"]
-    lines += [f"{what} | {time:.2f}" for what, time in taken.items()]
-    for what in ("", ", with a depth view"):
-        own = taken[f"merged{what}"] - taken[f"compared{what}"]
-        lines.append(f"merged over compared{what}, microseconds a gate that went: {1000 * own / (left[0] - left[-1]):.2f}")
-    return lines
+    told = re.findall(r"merged \d+ gates (\d+)", answers(commands["merged"], folder))
+    taken = run.medians(commands, folder, runs, (0, 1))
+    lines = [f"{len(told)} of {len(chosen):,} random merges met on {len(gates):,} gates, after which {int(told[-1]):,} are left; milliseconds"]
+    return lines + [f"{what} | {time:.2f}" for what, time in taken.items()]
 
 
 def main():
